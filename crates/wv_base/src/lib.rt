@@ -1,14 +1,35 @@
 //! The types that every crate of the loader speaks of, and the grammars of JVM names.
 #![tactic(auto)]
 
+mod access;
+mod action;
+mod broken;
 mod bytes;
-mod items;
+mod class_file;
+mod constant;
+mod fault;
+mod frame;
+mod insn;
 mod memory;
 mod name;
+mod note;
+mod rule;
+mod side;
 mod text;
 
+pub use access::AccessFlags;
+pub use action::{Action, ActionKind, HookList, Hooks, Spot};
+pub use broken::{Broken, Place};
 pub use bytes::Bytes;
-pub use items::Items;
+pub use class_file::{Attribute, Body, ClassFile, ClassVersion, ExceptionRange, Member, PoolEntry};
+pub use constant::{Const, MemberReference};
+pub use fault::{ClassFault, LimitFault};
+pub use frame::{Frame, FrameAt, FrameList, VType};
+pub use insn::{Case, Cases, Insn, Targets};
 pub use memory::Memory;
 pub use name::Name;
+pub use note::{Annotation, Element, NamedElement, Note};
+pub use rule::Rule;
+pub use side::Side;
+pub use sqlite_items::{Boxed, Items};
 pub use text::Text;
