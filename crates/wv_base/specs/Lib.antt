@@ -1,2 +1,4 @@
 pub mod Line
 pub mod Rule
+pub mod Opcodes
+pub mod Instructions
