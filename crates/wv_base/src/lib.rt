@@ -2,12 +2,14 @@
 #![tactic(auto)]
 
 mod bytes;
+mod folder;
 mod items;
 mod memory;
 mod name;
 mod text;
 
 pub use bytes::Bytes;
+pub use folder::Folder;
 pub use items::Items;
 pub use memory::Memory;
 pub use name::Name;
