@@ -2,3 +2,4 @@ pub mod Line
 pub mod Rule
 pub mod Opcodes
 pub mod Instructions
+pub mod Folder
