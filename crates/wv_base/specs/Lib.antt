@@ -2,3 +2,5 @@ pub mod Line
 pub mod Rule
 pub mod Opcodes
 pub mod Instructions
+pub mod Modified
+pub mod ModifiedReading
