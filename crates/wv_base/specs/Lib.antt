@@ -3,3 +3,5 @@ pub mod Rule
 pub mod Opcodes
 pub mod Instructions
 pub mod Folder
+pub mod Modified
+pub mod ModifiedReading
