@@ -1,5 +1,9 @@
 //! Why a class file could not be read or written.
 
+ghost use Rattle.std.specs.Prelude.{◌≡◌};
+
+use crate::memory::Memory;
+use std::alloc::{AllocError, AllocFailed};
 use thiserror::Error;
 
 /// Why bytes are no class file, or no part of one.
@@ -31,4 +35,64 @@ pub enum LimitFault {
     BranchFar,
     #[error("out of memory")]
     Memory,
+}
+
+impl From<Memory> for ClassFault {
+    ghost use Rattle.wv_base.specs.declared.fault.ClassFault.TheVariants as faults;
+
+    ghost from_gives = { λ _ e. e ≡ faults.Memory };
+
+    fn from(_error: Memory) -> ClassFault {
+        ClassFault::Memory
+    }
+}
+
+impl From<AllocError> for ClassFault {
+    ghost use Rattle.wv_base.specs.declared.fault.ClassFault.TheVariants as faults;
+
+    ghost from_gives = { λ _ e. e ≡ faults.Memory };
+
+    fn from(_error: AllocError) -> ClassFault {
+        ClassFault::Memory
+    }
+}
+
+impl<T: Drop> From<AllocFailed<T>> for ClassFault {
+    ghost use Rattle.wv_base.specs.declared.fault.ClassFault.TheVariants as faults;
+
+    ghost from_gives = { λ _ e. e ≡ faults.Memory };
+
+    fn from(_error: AllocFailed<T>) -> ClassFault {
+        ClassFault::Memory
+    }
+}
+
+impl From<Memory> for LimitFault {
+    ghost use Rattle.wv_base.specs.declared.fault.LimitFault.TheVariants as faults;
+
+    ghost from_gives = { λ _ e. e ≡ faults.Memory };
+
+    fn from(_error: Memory) -> LimitFault {
+        LimitFault::Memory
+    }
+}
+
+impl From<AllocError> for LimitFault {
+    ghost use Rattle.wv_base.specs.declared.fault.LimitFault.TheVariants as faults;
+
+    ghost from_gives = { λ _ e. e ≡ faults.Memory };
+
+    fn from(_error: AllocError) -> LimitFault {
+        LimitFault::Memory
+    }
+}
+
+impl<T: Drop> From<AllocFailed<T>> for LimitFault {
+    ghost use Rattle.wv_base.specs.declared.fault.LimitFault.TheVariants as faults;
+
+    ghost from_gives = { λ _ e. e ≡ faults.Memory };
+
+    fn from(_error: AllocFailed<T>) -> LimitFault {
+        LimitFault::Memory
+    }
 }
