@@ -1,5 +1,6 @@
 pub mod Line
 pub mod Rule
+pub mod Shown
 pub mod Opcodes
 pub mod Instructions
 pub mod Folder
