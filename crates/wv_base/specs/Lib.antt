@@ -5,3 +5,4 @@ pub mod Instructions
 pub mod Folder
 pub mod Modified
 pub mod ModifiedReading
+pub mod Names
