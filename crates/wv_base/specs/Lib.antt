@@ -6,3 +6,5 @@ pub mod Folder
 pub mod Modified
 pub mod ModifiedReading
 pub mod Names
+pub mod Descriptor
+pub mod DescriptorReading
