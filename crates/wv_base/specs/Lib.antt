@@ -6,3 +6,6 @@ pub mod Instructions
 pub mod Folder
 pub mod Modified
 pub mod ModifiedReading
+pub mod Names
+pub mod Descriptor
+pub mod DescriptorReading
