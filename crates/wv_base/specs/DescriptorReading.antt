@@ -26,17 +26,17 @@ primitive_of letter =
     else None
 
 -- behind an L: the class name up to the first semicolon, and the units behind that
-unfoldable pub class_at : List ℕ → Option (ElementType × List ℕ)
+unfoldable pub class_at : List ℕ → Option (List ℕ × List ℕ)
 class_at units =
     let end = position_or_len (λ unit. unit == SEMICOLON) units in
     if nat_lt end (length units) && is_class_name (take end units)
-    then Some (elements.Class (take end units), drop (end + 1) units) else None
+    then Some (take end units, drop (end + 1) units) else None
 
 -- the type at the front, which is no array, and the units behind it
 unfoldable pub element_at : List ℕ → Option (ElementType × List ℕ)
 element_at [] = None
 element_at (first ∷ rest) =
-    if first == CLASS then class_at rest
+    if first == CLASS then option_map (λ found. (elements.Class found.0, found.1)) (class_at rest)
     else option_map (λ primitive. (elements.Primitive primitive, rest)) (primitive_of first)
 
 -- the type at the front and the units behind it

@@ -1,7 +1,9 @@
 //! Descriptors of fields and methods (JVM Specification 4.3).
-ghost use Rattle.std.specs.Prelude.{◌≡◌, ◌==◌, ℕ, List, [], ◌∷◌, IfSome, IfNone};
+ghost use Rattle.std.specs.Prelude.{◌≡◌, ◌≤◌, ◌==◌, ◌↔◌, ℕ, length, List, [], ◌∷◌, IsTrue, IfSome, IfNone};
 ghost use Rattle.std.specs.Option.{option_map};
-ghost use Rattle.std.specs.List.{prefix_len};
+ghost use Rattle.std.specs.List.{prefix_len, position};
+ghost use Rattle.wv_base.specs.Descriptor.{element_words, field_words};
+ghost use Rattle.wv_base.specs.DescriptorReading.{class_at, element_at, field_at};
 
 use crate::grammar::{BRACKET, SEMICOLON, is_class};
 use crate::name::Name;
@@ -11,6 +13,8 @@ pub(crate) const OPEN: u16 = b'(' as u16;
 pub(crate) const CLOSE: u16 = b')' as u16;
 const CLASS: u16 = b'L' as u16;
 const VOID: u16 = b'V' as u16;
+/// How many dimensions an array has at most (JVM Specification 4.3.2).
+const MAX_DIMENSIONS: usize = 255;
 
 /// A primitive type (JVM Specification, table 4.3-A).
 #[derive(Clone, Copy, Debug, PartialEq, Eq)]
@@ -69,4 +73,63 @@ pub struct FieldType {
 pub struct MethodType {
     pub parameters: Items<FieldType>,
     pub result: Option<FieldType>,
+}
+
+/// How many brackets stand at the front.
+fn bracket_count(units: &[u16]) -> usize
+    ensures count { result ≡ prefix_len (λ unit. unit == BRACKET) units.now }
+    ensures within { result ≤ length units.now }
+{
+    units.iter().take_while(|unit| **unit == BRACKET).count()
+}
+
+fn semicolon_in(units: &[u16]) -> Option<usize>
+    ensures { result ≡ position (λ unit. unit == SEMICOLON) units.now }
+{
+    units.iter().position(|unit| *unit == SEMICOLON)
+}
+
+/// What stands behind a class name and its semicolon.
+#[tactic(auto, unfolding(crate::specs::DescriptorReading::class_at))]
+fn after_class(units: &[u16]) -> Option<&[u16]>
+    ensures { option_map (λ x. x.now) result ≡ option_map (λ x. x.1) (class_at units.now) }
+{
+    let end = semicolon_in(units)?;
+    if is_class(&units[..end]) {
+        Some(&units[end + 1..])
+    } else {
+        None
+    }
+}
+
+/// How many words the type at the front takes, which is no array, and what stands behind it.
+#[tactic(auto, unfolding(crate::specs::DescriptorReading::element_at))]
+fn after_element(units: &[u16]) -> Option<(usize, &[u16])>
+    ensures { option_map {U = ℕ × List ℕ} (λ x. (x.0, x.1.now)) result ≡ option_map (λ x. (element_words x.0, x.1)) (element_at units.now) }
+{
+    match units {
+        [] => None,
+        [CLASS, rest @ ..] => Some((1, after_class(rest)?)),
+        [letter, rest @ ..] => match Primitive::of_letter(*letter)? {
+            Primitive::Long | Primitive::Double => Some((2, rest)),
+            _ => Some((1, rest)),
+        },
+    }
+}
+
+/// How many words the type at the front takes, and what stands behind it.
+#[tactic(auto, unfolding(crate::specs::DescriptorReading::field_at))]
+fn after_field(units: &[u16]) -> Option<(usize, &[u16])>
+    ensures { option_map {U = ℕ × List ℕ} (λ x. (x.0, x.1.now)) result ≡ option_map (λ x. (field_words x.0, x.1)) (field_at units.now) }
+{
+    let dimensions = bracket_count(units);
+    if dimensions > MAX_DIMENSIONS {
+        return None;
+    }
+    let (words, rest) = after_element(&units[dimensions..])?;
+    if dimensions > 0 {
+        Some((1, rest))
+    } else {
+        Some((words, rest))
+    }
 }
