@@ -2,3 +2,4 @@ pub mod Buffer
 pub mod PathOrder
 pub mod UnitSpelling
 pub mod NameSpelling
+pub mod FieldTypes
