@@ -19,7 +19,7 @@ use Rattle.wv_base.specs.Names.{is_name_unit, is_unqualified, is_class_name}
 use Rattle.wv_base.specs.Descriptor.{letters, element_descriptor, descriptor_of, IsElementType, IsFieldType}
 use Rattle.wv_base.specs.DescriptorReading.{primitive_of, class_at, element_at, field_at}
 
-some_is : {A : Type 0} (x y : A) → ◌≡◌ {A = Option A} (Some x) (Some y) → x ≡ y
+pub some_is : {A : Type 0} (x y : A) → ◌≡◌ {A = Option A} (Some x) (Some y) → x ≡ y
 some_is x y e = cc
 
 test_passed : {A : Type 0} (b : Bool) (x y : A) → cond b (Some x) None ≡ Some y → (b ≡ true) × (x ≡ y)

@@ -3,3 +3,4 @@ pub mod PathOrder
 pub mod UnitSpelling
 pub mod NameSpelling
 pub mod FieldTypes
+pub mod MethodTypes

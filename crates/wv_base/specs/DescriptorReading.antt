@@ -1,16 +1,17 @@
 -- Reading a descriptor from the front. That this is the reading of `descriptor_of` and of no other
 -- units, the laws of `one_descriptor` say.
-use Rattle.std.specs.Prelude.{ℕ, ◌+◌, ◌&&◌, ◌==◌, nat_lt, nat_le, if◌then◌else◌, List, [], ◌∷◌, length, take, drop, Option, Some, None}
+use Rattle.std.specs.Prelude.{◌≡◌, ℕ, ◌++◌, ◌+◌, ◌&&◌, ◌==◌, nat_lt, nat_le, if◌then◌else◌, List, [], ◌∷◌, length, take, drop, Option, Some, None}
 use Rattle.std.specs.Option.{option_map}
-use Rattle.std.specs.List.{prefix_len, position_or_len}
+use Rattle.std.specs.List.{flat_map, prefix_len, position_or_len, AllByRecursion}
 use Rattle.wv_base.specs.declared.grammar.TheConstants.{BRACKET, SEMICOLON}
-use Rattle.wv_base.specs.declared.descriptor.TheConstants.{CLASS}
+use Rattle.wv_base.specs.declared.descriptor.TheConstants.{CLASS, CLOSE}
 use Rattle.wv_base.specs.declared.descriptor.Primitive.{Primitive}
 use Rattle.wv_base.specs.declared.descriptor.Primitive.TheVariants.{Boolean, Byte, Char, Short, Int, Long, Float, Double}
 use Rattle.wv_base.specs.declared.descriptor.ElementType.{ElementType}
 use Rattle.wv_base.specs.declared.descriptor.ElementType.TheVariants as elements
 use Rattle.wv_base.specs.declared.descriptor.FieldType.{FieldType}
 use Rattle.wv_base.specs.Names.{is_class_name}
+use Rattle.wv_base.specs.Descriptor.{descriptor_of, IsFieldType}
 
 -- the primitive type of a letter
 abbrev pub primitive_of : ℕ → Option Primitive
@@ -46,3 +47,8 @@ field_at units =
     if nat_le dimensions 255
     then option_map (λ found. (record { element = found.0; dimensions = dimensions }, found.1)) (element_at (drop dimensions units))
     else None
+
+-- the parameters' types at the front, and the units behind the parenthesis that ends them
+pub record IsParametersFront (units : List ℕ) (fields : List FieldType) (rest : List ℕ) : Type 0 where
+  pub each : AllByRecursion IsFieldType fields
+  pub spelled : units ≡ flat_map descriptor_of fields ++ CLOSE ∷ rest
