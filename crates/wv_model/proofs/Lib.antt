@@ -1,2 +1,5 @@
 pub mod Runs
 pub mod Corresponds
+pub mod EverySchedule
+pub mod Turns
+pub mod Lift
