@@ -3,3 +3,4 @@ pub mod Corresponds
 pub mod EverySchedule
 pub mod Turns
 pub mod Lift
+pub mod Safety

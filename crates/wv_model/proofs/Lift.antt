@@ -10,7 +10,7 @@ use Rattle.wv_model.specs.Control.{Control, Rules}
 use Rattle.wv_model.specs.Step.{State, turn, step, machine, start}
 use Rattle.wv_model.specs.FrameRelation.{FrameRelation}
 use Rattle.wv_model.specs.FrameLaws.{FrameLaws}
-use Rattle.wv_model.specs.Lifted.{Waiting, none_below, Threads, running, throwing, QuietTurn, BothGo, BothEnd, TurnsAgree, GoOn, HaveEnded, Lifted}
+use Rattle.wv_model.specs.Lifted.{Waiting, none_below, RelatedFrames, running, throwing, QuietTurn, BothGo, BothEnd, TurnsAgree, GoOn, HaveEnded, Lifted}
 use Rattle.wv_model.proofs.Turns.{turns_agree}
 use Rattle.wv_model.proofs.Corresponds as Law
 
@@ -19,12 +19,12 @@ pub machine_grows : {D : Domain} {P : Type 0} (rules : Rules D) (control : Contr
 machine_grows rules control state = ((turn rules control state.frames state.shared).shown, refl)
 
 module _ (factor : ℕ) {D : Domain} {P Q : Type 0} (rules : Rules D) (first : Control D P) (second : Control D Q) (R : FrameRelation D P Q) (law : FrameLaws factor rules first second R) where
-  threads_below : {w : R.World} {n : ℕ} {fs : List (Frame D P)} {gs : List (Frame D Q)} → 0 < factor → Threads R w n fs gs → n < factor
-  threads_below some (running runs waiting) = law.below _ _ _ _ _ runs
-  threads_below some (throwing waits throws waiting) = some
+  frames_below : {w : R.World} {n : ℕ} {fs : List (Frame D P)} {gs : List (Frame D Q)} → 0 < factor → RelatedFrames R w n fs gs → n < factor
+  frames_below some (running runs waiting) = law.below _ _ _ _ _ runs
+  frames_below some (throwing waits throws waiting) = some
 
   number_below : (n : ℕ) (s : State D P) (t : State D Q) → 0 < factor → GoOn R n s t ⊎ HaveEnded n s t → n < factor
-  number_below n s t some (inl both) = threads_below some both.frames
+  number_below n s t some (inl both) = frames_below some both.frames
   number_below n s t some (inr both) = subst (λ m. m < factor) (sym both.none_left) some
 
   endings_alike : (n : ℕ) (s : State D P) (t : State D Q) → GoOn R n s t ⊎ HaveEnded n s t → s.ending ≡ t.ending

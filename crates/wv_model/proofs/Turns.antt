@@ -8,7 +8,7 @@ use Rattle.wv_model.specs.Course.{Course, Goes, Calls, Gives, Leaves, Ends, Stic
 use Rattle.wv_model.specs.Step.{frame_limit, pushed, given, passed_down, thrown_from, settled, turn}
 use Rattle.wv_model.specs.FrameRelation.{FrameRelation, Running, Agree, GoesQuietly, IsQuiet, IsMatched, CatchAlike}
 use Rattle.wv_model.specs.FrameLaws.{FrameLaws}
-use Rattle.wv_model.specs.Lifted.{Waiting, none_below, one_below, Threads, running, throwing, QuietTurn, BothGo, BothEnd, TurnsAgree}
+use Rattle.wv_model.specs.Lifted.{Waiting, none_below, one_below, RelatedFrames, running, throwing, QuietTurn, BothGo, BothEnd, TurnsAgree}
 
 module _ (factor : ℕ) {D : Domain} {P Q : Type 0} (rules : Rules D) (first : Control D P) (second : Control D Q) (R : FrameRelation D P Q) (law : FrameLaws factor rules first second R) where
   waiting_later : {w later : R.World} {called : D.Method} {fs : List (Frame D P)} {gs : List (Frame D Q)} → R.Later w later → Waiting R w called fs gs → Waiting R later called fs gs
@@ -49,23 +49,23 @@ module _ (factor : ℕ) {D : Domain} {P Q : Type 0} (rules : Rules D) (first : C
       passed_agree w later called thrown thrown' fs gs h k shown shown' l alike throws waiting same
 
   -- courses that agree come to turns that agree
-  settled_agree : (c : Course D P) (c' : Course D Q) (w later : R.World) (method : D.Method) (n : ℕ) (f : Frame D P) (g : Frame D Q) (fs : List (Frame D P)) (gs : List (Frame D Q)) (h k : D.Shared) (shown shown' : List D.Piece) → f.method ≡ method → g.method ≡ method → R.Later w later → R.Alike w h k → Waiting R w method fs gs → Threads R w n (f ∷ fs) (g ∷ gs) → shown ≡ shown' → Agree R later method c c' → TurnsAgree R w (settled rules first c shown f fs h) (settled rules second c' shown' g gs k)
-  settled_agree (Goes f' h') (Goes g' k') w later method n f g fs gs h k shown shown' ef eg l alike waiting threads same (alike', (n', runs)) =
+  settled_agree : (c : Course D P) (c' : Course D Q) (w later : R.World) (method : D.Method) (n : ℕ) (f : Frame D P) (g : Frame D Q) (fs : List (Frame D P)) (gs : List (Frame D Q)) (h k : D.Shared) (shown shown' : List D.Piece) → f.method ≡ method → g.method ≡ method → R.Later w later → R.Alike w h k → Waiting R w method fs gs → RelatedFrames R w n (f ∷ fs) (g ∷ gs) → shown ≡ shown' → Agree R later method c c' → TurnsAgree R w (settled rules first c shown f fs h) (settled rules second c' shown' g gs k)
+  settled_agree (Goes f' h') (Goes g' k') w later method n f g fs gs h k shown shown' ef eg l alike waiting frames same (alike', (n', runs)) =
       (same, inl (record { first_goes = refl; second_goes = refl; world = later; is_later = l; alike = alike'; number = n'; frames = running runs (waiting_later l waiting) }))
-  settled_agree (Calls f' entered h') (Calls g' entered' k') w later method n f g fs gs h k shown shown' ef eg l alike waiting threads same (alike', (called, waits, runs)) =
+  settled_agree (Calls f' entered h') (Calls g' entered' k') w later method n f g fs gs h k shown shown' ef eg l alike waiting frames same (alike', (called, waits, runs)) =
       let room = ap (λ m. nat_lt (suc m) frame_limit) (waiting_length waiting) in
       pushed_agree _ _ w later called entered entered' (f' ∷ fs) (g' ∷ gs) h' k' shown shown' room l alike' runs (one_below waits (waiting_later l waiting)) same
-  settled_agree (Gives value h') (Gives value' k') w later method n f g fs gs h k shown shown' ef eg l alike waiting threads same (alike', gives) =
+  settled_agree (Gives value h') (Gives value' k') w later method n f g fs gs h k shown shown' ef eg l alike waiting frames same (alike', gives) =
       let agree = given_agree w later method value value' fs gs h' k' shown shown' l alike' gives (waiting_later l waiting) same in
       subst (λ m. TurnsAgree R w (given rules first m value fs h' shown) (given rules second g.method value' gs k' shown')) (sym ef) (subst (λ m. TurnsAgree R w (given rules first method value fs h' shown) (given rules second m value' gs k' shown')) (sym eg) agree)
-  settled_agree (Leaves thrown h') (Leaves thrown' k') w later method n f g fs gs h k shown shown' ef eg l alike waiting threads same (alike', throws) =
+  settled_agree (Leaves thrown h') (Leaves thrown' k') w later method n f g fs gs h k shown shown' ef eg l alike waiting frames same (alike', throws) =
       let agree = thrown_agree (rules.is_initializer f.method) w later method thrown thrown' fs gs h' k' shown shown' l alike' throws (waiting_later l waiting) same in
       subst (λ m. TurnsAgree R w (thrown_from (rules.is_initializer f.method) rules thrown fs h' shown) (thrown_from (rules.is_initializer m) rules thrown' gs k' shown')) (ef ∙ sym eg) agree
-  settled_agree (Ends ending h') (Ends ending' k') w later method n f g fs gs h k shown shown' ef eg l alike waiting threads same e =
+  settled_agree (Ends ending h') (Ends ending' k') w later method n f g fs gs h k shown shown' ef eg l alike waiting frames same e =
       (same, inr (record { ending = ending; first_ends = refl; second_ends = ap Some (sym e) }))
-  settled_agree Sticks Sticks w later method n f g fs gs h k shown shown' ef eg l alike waiting threads same agree =
-      (refl, inl (record { first_goes = refl; second_goes = refl; world = w; is_later = law.same_world w; alike = alike; number = n; frames = threads }))
-  settled_agree _ _ w later method n f g fs gs h k shown shown' ef eg l alike waiting threads same agree = absurd agree
+  settled_agree Sticks Sticks w later method n f g fs gs h k shown shown' ef eg l alike waiting frames same agree =
+      (refl, inl (record { first_goes = refl; second_goes = refl; world = w; is_later = law.same_world w; alike = alike; number = n; frames = frames }))
+  settled_agree _ _ w later method n f g fs gs h k shown shown' ef eg l alike waiting frames same agree = absurd agree
 
   -- a quiet course comes to a quiet turn
   settled_quietly : (c : Course D P) (w later : R.World) (method : D.Method) (n : ℕ) (f : Frame D P) (g : Frame D Q) (fs : List (Frame D P)) (gs : List (Frame D Q)) (h k : D.Shared) (shown : List D.Piece) → R.Later w later → Waiting R w method fs gs → shown ≡ [] → GoesQuietly R later method n c g k → QuietTurn R w n (settled rules first c shown f fs h) (g ∷ gs) k
@@ -80,7 +80,7 @@ module _ (factor : ℕ) {D : Domain} {P Q : Type 0} (rules : Rules D) (first : C
   caught_agree None (Some g) w method thrown thrown' h k alike throws catch = absurd catch
 
   -- a turn of the first machine is quiet, or agrees with a turn of the second
-  pub turns_agree : (w : R.World) (n : ℕ) (fs : List (Frame D P)) (gs : List (Frame D Q)) (h k : D.Shared) → R.Alike w h k → Threads R w n fs gs → QuietTurn R w n (turn rules first fs h) gs k ⊎ TurnsAgree R w (turn rules first fs h) (turn rules second gs k)
+  pub turns_agree : (w : R.World) (n : ℕ) (fs : List (Frame D P)) (gs : List (Frame D Q)) (h k : D.Shared) → R.Alike w h k → RelatedFrames R w n fs gs → QuietTurn R w n (turn rules first fs h) gs k ⊎ TurnsAgree R w (turn rules first fs h) (turn rules second gs k)
   turns_agree w n _ _ h k alike (running {method} {f} {g} {fs} {gs} runs waiting) =
       let (ef, eg) = law.running_method w method n f g runs in
       elim (law.runs w method n f g h k alike runs) [

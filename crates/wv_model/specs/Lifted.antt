@@ -11,9 +11,9 @@ pub data Waiting {D : Domain} {P Q : Type 0} (R : FrameRelation D P Q) (w : R.Wo
   one_below : {method called : D.Method} {f : Frame D P} {g : Frame D Q} {fs : List (Frame D P)} {gs : List (Frame D Q)} → R.Waits w method called f g → Waiting R w method fs gs → Waiting R w called (f ∷ fs) (g ∷ gs)
 
 -- the frames of two threads: the top ones run, or wait and have a throw come back into them
-pub data Threads {D : Domain} {P Q : Type 0} (R : FrameRelation D P Q) (w : R.World) : ℕ → List (Frame D P) → List (Frame D Q) → Type 0 where
-  running : {method : D.Method} {n : ℕ} {f : Frame D P} {g : Frame D Q} {fs : List (Frame D P)} {gs : List (Frame D Q)} → R.Runs w method n f g → Waiting R w method fs gs → Threads R w n (f ∷ fs) (g ∷ gs)
-  throwing : {method called : D.Method} {thrown thrown' : D.Thrown} {f : Frame D P} {g : Frame D Q} {fs : List (Frame D P)} {gs : List (Frame D Q)} → R.Waits w method called f g → R.Thrown w thrown thrown' → Waiting R w method fs gs → Threads R w zero (struck thrown f ∷ fs) (struck thrown' g ∷ gs)
+pub data RelatedFrames {D : Domain} {P Q : Type 0} (R : FrameRelation D P Q) (w : R.World) : ℕ → List (Frame D P) → List (Frame D Q) → Type 0 where
+  running : {method : D.Method} {n : ℕ} {f : Frame D P} {g : Frame D Q} {fs : List (Frame D P)} {gs : List (Frame D Q)} → R.Runs w method n f g → Waiting R w method fs gs → RelatedFrames R w n (f ∷ fs) (g ∷ gs)
+  throwing : {method called : D.Method} {thrown thrown' : D.Thrown} {f : Frame D P} {g : Frame D Q} {fs : List (Frame D P)} {gs : List (Frame D Q)} → R.Waits w method called f g → R.Thrown w thrown thrown' → Waiting R w method fs gs → RelatedFrames R w zero (struck thrown f ∷ fs) (struck thrown' g ∷ gs)
 
 -- the first machine's turn shows nothing, ends nothing and lowers the number, and the second thread stays
 pub record QuietTurn {D : Domain} {P Q : Type 0} (R : FrameRelation D P Q) (w : R.World) (n : ℕ) (turn : Turn D P) (gs : List (Frame D Q)) (k : D.Shared) : Type 0 where
@@ -24,7 +24,7 @@ pub record QuietTurn {D : Domain} {P Q : Type 0} (R : FrameRelation D P Q) (w : 
   pub alike : R.Alike world turn.shared k
   pub number : ℕ
   pub fewer : number < n
-  pub frames : Threads R world number turn.frames gs
+  pub frames : RelatedFrames R world number turn.frames gs
 
 -- two turns after which both threads go on, related in a later world
 pub record BothGo {D : Domain} {P Q : Type 0} (R : FrameRelation D P Q) (w : R.World) (turn : Turn D P) (turn' : Turn D Q) : Type 0 where
@@ -34,7 +34,7 @@ pub record BothGo {D : Domain} {P Q : Type 0} (R : FrameRelation D P Q) (w : R.W
   pub is_later : R.Later w world
   pub alike : R.Alike world turn.shared turn'.shared
   pub number : ℕ
-  pub frames : Threads R world number turn.frames turn'.frames
+  pub frames : RelatedFrames R world number turn.frames turn'.frames
 
 -- two turns that end alike
 pub record BothEnd {D : Domain} {P Q : Type 0} (turn : Turn D P) (turn' : Turn D Q) : Type 0 where
@@ -52,7 +52,7 @@ pub record GoOn {D : Domain} {P Q : Type 0} (R : FrameRelation D P Q) (n : ℕ) 
   pub second_goes : t.ending ≡ None
   pub world : R.World
   pub alike : R.Alike world s.shared t.shared
-  pub frames : Threads R world n s.frames t.frames
+  pub frames : RelatedFrames R world n s.frames t.frames
 
 -- two states that have ended alike
 pub record HaveEnded {D : Domain} {P Q : Type 0} (n : ℕ) (s : State D P) (t : State D Q) : Type 0 where

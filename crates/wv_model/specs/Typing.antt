@@ -1,7 +1,7 @@
 -- Facts on single frames from which no step of a whole run is stuck. Our own.
-use Rattle.std.specs.Prelude.{◌≡◌, ℕ, List, [], ◌∷◌, Option, Some, None}
+use Rattle.std.specs.Prelude.{◌≡◌, ◌⊎◌, ℕ, List, [], ◌∷◌, Option, Some, None}
 use Rattle.wv_model.specs.Domain.{Domain}
-use Rattle.wv_model.specs.Frame.{Frame, cleared}
+use Rattle.wv_model.specs.Frame.{Frame, struck, cleared}
 use Rattle.wv_model.specs.Control.{Control, Rules}
 use Rattle.wv_model.specs.Course.{Course, Goes, Calls, Gives, Leaves, Ends, Sticks, move, resumed}
 use Rattle.wv_model.specs.Step.{State}
@@ -53,3 +53,24 @@ FramesStick {D} {P} control (frame ∷ below) shared = (move control frame share
 -- a state that hasn't ended and whose step can do nothing
 abbrev pub IsStuck : {D : Domain} {P : Type 0} → Control D P → State D P → Type 0
 IsStuck control state = (state.ending ≡ None) × FramesStick control state.frames state.shared
+
+-- the frames below a frame of the called method wait for it, and each waits for the one above it
+pub data TypedBelow {D : Domain} {P : Type 0} (T : FrameTyping D P) (w : T.World) : D.Method → List (Frame D P) → Type 0 where
+  none_typed : {called : D.Method} → TypedBelow T w called []
+  one_typed : {method called : D.Method} {frame : Frame D P} {frames : List (Frame D P)} → T.Waits w method called frame → TypedBelow T w method frames → TypedBelow T w called (frame ∷ frames)
+
+-- the frames of a thread: the top one runs, or waits and has a throw come back into it
+pub data TypedFrames {D : Domain} {P : Type 0} (T : FrameTyping D P) (w : T.World) : List (Frame D P) → Type 0 where
+  typed_running : {method : D.Method} {frame : Frame D P} {frames : List (Frame D P)} → T.Runs w method frame → TypedBelow T w method frames → TypedFrames T w (frame ∷ frames)
+  typed_throwing : {method called : D.Method} {thrown : D.Thrown} {frame : Frame D P} {frames : List (Frame D P)} → T.Waits w method called frame → T.Thrown w thrown → TypedBelow T w method frames → TypedFrames T w (struck thrown frame ∷ frames)
+
+-- a state that goes on typed in some world
+pub record GoesTyped {D : Domain} {P : Type 0} (T : FrameTyping D P) (ending : Option D.Ending) (frames : List (Frame D P)) (shared : D.Shared) : Type 0 where
+  pub goes : ending ≡ None
+  pub world : T.World
+  pub sound : T.Sound world shared
+  pub typed : TypedFrames T world frames
+
+-- typed, or ended
+abbrev pub IsTyped : {D : Domain} {P : Type 0} (T : FrameTyping D P) → Option D.Ending → List (Frame D P) → D.Shared → Type 0
+IsTyped {D} {P} T ending frames shared = GoesTyped T ending frames shared ⊎ ((e : D.Ending) × (ending ≡ Some e))

@@ -4,7 +4,9 @@
 mod frames;
 mod schedules;
 mod simulation;
+mod typing;
 
 pub use frames::{FrameSimulation, starts_correspond};
 pub use schedules::{ThreadSimulation, schedules_correspond};
 pub use simulation::{Simulation, correspond};
+pub use typing::{Typed, never_stuck};
