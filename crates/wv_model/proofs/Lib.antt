@@ -4,3 +4,5 @@ pub mod EverySchedule
 pub mod Turns
 pub mod Lift
 pub mod Safety
+pub mod Blocks
+pub mod EndsWell

@@ -8,6 +8,11 @@ use Rattle.wv_model.specs.Course.{Course, Goes, Calls, Gives, Leaves, Ends, Stic
 use Rattle.wv_model.specs.Step.{Turn, State, pushed, given, passed_down, thrown_from, settled, turn, step, machine, start}
 use Rattle.wv_model.specs.Typing.{FrameTyping, Keeps, CatchKeeps, TypingLaws, FramesStick, IsStuck, TypedBelow, none_typed, one_typed, TypedFrames, typed_running, typed_throwing, GoesTyped, IsTyped}
 
+-- a frame that catches in its typing, or is left by the throw, keeps it
+pub caught_typed : {D : Domain} {P : Type 0} (T : FrameTyping D P) (o : Option (Frame D P)) (w : T.World) (method : D.Method) (thrown : D.Thrown) (shared : D.Shared) → T.Sound w shared → T.Thrown w thrown → CatchKeeps T w method o → Keeps T w method (caught o thrown shared)
+caught_typed T (Some frame) w method thrown shared sound throws catch = (sound, catch)
+caught_typed T None w method thrown shared sound throws catch = (sound, throws)
+
 module _ {D : Domain} {P : Type 0} (rules : Rules D) (control : Control D P) (T : FrameTyping D P) (law : TypingLaws rules control T) where
   abbrev Fine : Turn D P → Type 0
   Fine turn = IsTyped T turn.ending turn.frames turn.shared
@@ -44,16 +49,12 @@ module _ {D : Domain} {P : Type 0} (rules : Rules D) (control : Control D P) (T 
   settled_typed (Ends ending shared') w method frame fs shared shown e below keeps = inr (ending, refl)
   settled_typed Sticks w method frame fs shared shown e below keeps = absurd keeps
 
-  caught_typed : (o : Option (Frame D P)) (w : T.World) (method : D.Method) (thrown : D.Thrown) (shared : D.Shared) → T.Sound w shared → T.Thrown w thrown → CatchKeeps T w method o → Keeps T w method (caught o thrown shared)
-  caught_typed (Some frame) w method thrown shared sound throws catch = (sound, catch)
-  caught_typed None w method thrown shared sound throws catch = (sound, throws)
-
   turn_typed : (w : T.World) (fs : List (Frame D P)) (shared : D.Shared) → T.Sound w shared → TypedFrames T w fs → Fine (turn rules control fs shared)
   turn_typed w _ shared sound (typed_running {method} {frame} {frames} runs below) =
       let (later, l, keeps) = law.runs w method frame shared sound runs in
       settled_typed _ later method frame frames shared _ (law.running_method w method frame runs) (below_later l below) keeps
   turn_typed w _ shared sound (typed_throwing {method} {called} {thrown} {frame} {frames} waits throws below) =
-      let keeps = caught_typed _ w method thrown shared sound throws (law.catches w method called thrown frame shared sound waits throws) in
+      let keeps = caught_typed T _ w method thrown shared sound throws (law.catches w method called thrown frame shared sound waits throws) in
       settled_typed _ w method (struck thrown frame) frames shared [] (law.waiting_method w method called frame waits) below keeps
 
   never_sticks : (c : Course D P) (w : T.World) (method : D.Method) → Keeps T w method c → c ≡ Sticks → ⊥
@@ -64,7 +65,7 @@ module _ {D : Domain} {P : Type 0} (rules : Rules D) (control : Control D P) (T 
       let (later, l, keeps) = law.runs w method frame shared sound runs in
       never_sticks _ later method keeps stuck
   frames_go w _ shared sound (typed_throwing {method} {called} {thrown} {frame} waits throws below) stuck =
-      let keeps = caught_typed _ w method thrown shared sound throws (law.catches w method called thrown frame shared sound waits throws) in
+      let keeps = caught_typed T _ w method thrown shared sound throws (law.catches w method called thrown frame shared sound waits throws) in
       never_sticks _ w method keeps stuck
 
   abbrev StateTyped : State D P → Type 0

@@ -10,6 +10,13 @@ use Rattle.wv_model.specs.FrameRelation.{FrameRelation, Running, Agree, GoesQuie
 use Rattle.wv_model.specs.FrameLaws.{FrameLaws}
 use Rattle.wv_model.specs.Lifted.{Waiting, none_below, one_below, RelatedFrames, running, throwing, QuietTurn, BothGo, BothEnd, TurnsAgree}
 
+-- frames that catch alike have courses that agree
+pub caught_agree : {D : Domain} {P Q : Type 0} (R : FrameRelation D P Q) (o : Option (Frame D P)) (o' : Option (Frame D Q)) (w : R.World) (method : D.Method) (thrown thrown' : D.Thrown) (h k : D.Shared) → R.Alike w h k → R.Thrown w thrown thrown' → CatchAlike R w method o o' → Agree R w method (caught o thrown h) (caught o' thrown' k)
+caught_agree R (Some f) (Some g) w method thrown thrown' h k alike throws catch = (alike, catch)
+caught_agree R None None w method thrown thrown' h k alike throws catch = (alike, throws)
+caught_agree R (Some f) None w method thrown thrown' h k alike throws catch = absurd catch
+caught_agree R None (Some g) w method thrown thrown' h k alike throws catch = absurd catch
+
 module _ (factor : ℕ) {D : Domain} {P Q : Type 0} (rules : Rules D) (first : Control D P) (second : Control D Q) (R : FrameRelation D P Q) (law : FrameLaws factor rules first second R) where
   waiting_later : {w later : R.World} {called : D.Method} {fs : List (Frame D P)} {gs : List (Frame D Q)} → R.Later w later → Waiting R w called fs gs → Waiting R later called fs gs
   waiting_later l none_below = none_below
@@ -73,12 +80,6 @@ module _ (factor : ℕ) {D : Domain} {P Q : Type 0} (rules : Rules D) (first : C
       record { unseen = unseen; goes = refl; world = later; is_later = l; alike = alike; number = fewer; fewer = less; frames = running runs (waiting_later l waiting) }
   settled_quietly _ w later method n f g fs gs h k shown l waiting unseen quiet = absurd quiet
 
-  caught_agree : (o : Option (Frame D P)) (o' : Option (Frame D Q)) (w : R.World) (method : D.Method) (thrown thrown' : D.Thrown) (h k : D.Shared) → R.Alike w h k → R.Thrown w thrown thrown' → CatchAlike R w method o o' → Agree R w method (caught o thrown h) (caught o' thrown' k)
-  caught_agree (Some f) (Some g) w method thrown thrown' h k alike throws catch = (alike, catch)
-  caught_agree None None w method thrown thrown' h k alike throws catch = (alike, throws)
-  caught_agree (Some f) None w method thrown thrown' h k alike throws catch = absurd catch
-  caught_agree None (Some g) w method thrown thrown' h k alike throws catch = absurd catch
-
   -- a turn of the first machine is quiet, or agrees with a turn of the second
   pub turns_agree : (w : R.World) (n : ℕ) (fs : List (Frame D P)) (gs : List (Frame D Q)) (h k : D.Shared) → R.Alike w h k → RelatedFrames R w n fs gs → QuietTurn R w n (turn rules first fs h) gs k ⊎ TurnsAgree R w (turn rules first fs h) (turn rules second gs k)
   turns_agree w n _ _ h k alike (running {method} {f} {g} {fs} {gs} runs waiting) =
@@ -89,5 +90,5 @@ module _ (factor : ℕ) {D : Domain} {P Q : Type 0} (rules : Rules D) (first : C
       ]
   turns_agree w _ _ _ h k alike (throwing {method} {called} {thrown} {thrown'} {f} {g} {fs} {gs} waits throws waiting) =
       let (ef, eg) = law.waiting_method w method called f g waits in
-      let catch = caught_agree _ _ w method thrown thrown' h k alike throws (law.catches w method called thrown thrown' f g h k alike waits throws) in
+      let catch = caught_agree R _ _ w method thrown thrown' h k alike throws (law.catches w method called thrown thrown' f g h k alike waits throws) in
       inr (settled_agree _ _ w w method zero (struck thrown f) (struck thrown' g) fs gs h k [] [] ef eg (law.same_world w) alike waiting (throwing waits throws waiting) refl catch)

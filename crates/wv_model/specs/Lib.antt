@@ -12,3 +12,4 @@ pub mod FrameRelation
 pub mod FrameLaws
 pub mod Lifted
 pub mod Typing
+pub mod Toy
