@@ -1,7 +1,8 @@
 -- Runs of a machine: more steps, ended states, and what was shown.
-use Rattle.std.proofs.Common.{◌≡◌, ℕ, zero, suc, ◌+◌, ◌-◌, ◌≤◌, List, [], ◌∷◌, ◌++◌, Option, Some, None, refl, sym, ap, ◌∙◌, subst, arith, append_assoc, zero-add}
+use Rattle.std.proofs.Common.{◌≡◌, ℕ, zero, suc, ◌+◌, ◌-◌, ◌*◌, ◌≤◌, List, [], ◌∷◌, ◌++◌, Option, Some, None, refl, sym, ap, ◌∙◌, subst, arith, append_assoc, zero-add}
 use Rattle.std.proofs.lemmas.List.{append-nil}
 use Rattle.wv_model.specs.Machine.{Machine, unless_ended, advance, after, Finish, Ended, Budget, finish_of, Run, run, Begins, Grows}
+use Rattle.wv_model.specs.Corresponds.{Corresponds, EndsAlike, steps_for_one}
 
 pub begins_itself : {Piece : Type 0} (front : List Piece) → Begins front front
 begins_itself front = ([], sym (append-nil front))
@@ -53,3 +54,19 @@ module _ {State Piece Ending : Type 0} (m : Machine State Piece Ending) where
   pub grows_between : (a b : ℕ) (s : State) → Grows m → a ≤ b → Begins (m.trace (after m a s)) (m.trace (after m b s))
   grows_between a b s grows h =
       subst (λ t. Begins (m.trace (after m a s)) (m.trace t)) (sym (after_rest a b s h)) (grows_after (b - a) (after m a s) grows)
+
+  pub longer_shows : Grows m → (n more : ℕ) (s : State) → Begins (run m n s).trace (run m (n + more) s).trace
+  longer_shows grows n more s = grows_between n (n + more) s grows (omega arith)
+
+  pub longer_stays : (n more : ℕ) (s : State) (e : Ending) → (run m n s).finish ≡ Ended e → run m (n + more) s ≡ run m n s
+  longer_stays n more s e h =
+      let still = stays_ended n (n + more) s e (omega arith) (ended_of (m.ending (after m n s)) e h) in
+      same_run m (n + more) s m n s (ap m.trace still) (ap m.ending still)
+
+-- machines that correspond have the same runs among those that end
+pub ends_alike : {S T Piece Ending : Type 0} (first : Machine S Piece Ending) (second : Machine T Piece Ending) (s : S) (t : T) → Corresponds first s second t → EndsAlike first s second t
+ends_alike first second s t law seen e h =
+    (
+      λ f. (f.0, law.ends_of_first f.0 e (ap (λ r. r.finish) f.1 ∙ h) ∙ f.1),
+      λ f. (steps_for_one * (f.0 + 1), law.ends_of_second f.0 e (ap (λ r. r.finish) f.1 ∙ h) ∙ f.1)
+    )

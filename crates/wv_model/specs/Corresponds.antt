@@ -1,5 +1,5 @@
 -- When two machines correspond, for every budget of steps. Our own.
-use Rattle.std.specs.Prelude.{◌≡◌, ℕ, suc, ◌+◌, ◌*◌}
+use Rattle.std.specs.Prelude.{◌≡◌, ◌↔◌, ℕ, ◌+◌, ◌*◌}
 use Rattle.wv_model.specs.Machine.{Machine, Finish, Ended, Run, run, Begins}
 
 -- so many steps of the first machine at most stand for one step of the second
@@ -21,3 +21,8 @@ pub record CorrespondsWithin (factor : ℕ) {S T Piece Ending : Type 0} (first :
 -- the same with the factor of the woven program
 abbrev pub Corresponds : {S T Piece Ending : Type 0} → Machine S Piece Ending → S → Machine T Piece Ending → T → Type 0
 Corresponds first s second t = CorrespondsWithin steps_for_one first s second t
+
+-- a run that ends is a run of the one from its state exactly where it is a run of the other
+abbrev pub EndsAlike : {S T Piece Ending : Type 0} → Machine S Piece Ending → S → Machine T Piece Ending → T → Type 0
+EndsAlike {S} {T} {Piece} {Ending} first s second t =
+    (seen : Run Piece Ending) (e : Ending) → seen.finish ≡ Ended e → ((n : ℕ) × (run first n s ≡ seen)) ↔ ((n : ℕ) × (run second n t ≡ seen))

@@ -1,12 +1,20 @@
-//! The frame in which machines are compared: what a run is, when two machines correspond, and the laws by which it is shown.
+//! The frame in which machines are compared: what a run is, when two machines correspond, one step for all machines of
+//! frames, and the laws that lead from single frames to whole runs.
+//!
+//! Nothing here is called by a program. Each law stands as the contract of a function with an empty body. A trait says
+//! what the law is about and what it takes for granted, so the law holds of all that could be put in.
 #![tactic(auto)]
 
 mod frames;
+mod machine;
 mod schedules;
 mod simulation;
+mod toy;
 mod typing;
 
-pub use frames::{FrameSimulation, starts_correspond};
+pub use frames::{FrameSimulation, starts_correspond, states_simulate, turns_agree};
+pub use machine::{Growing, longer_run_keeps};
 pub use schedules::{ThreadSimulation, schedules_correspond};
-pub use simulation::{Simulation, correspond};
+pub use simulation::{Simulation, correspond, ends_alike, keeps_pace};
+pub use toy::{toy_never_stuck, woven_toy_corresponds};
 pub use typing::{Typed, never_stuck};
