@@ -4,6 +4,7 @@ use Rattle.wv_model.specs.Frame.{Frame, cleared}
 use Rattle.wv_model.specs.Course.{move, resumed}
 use Rattle.wv_model.specs.FrameRelation.{Running, IsQuiet, IsMatched, CatchAlike}
 use Rattle.wv_model.specs.FrameLaws.{FrameLaws}
+use Rattle.wv_model.specs.Threads.{ThreadLaws}
 use Rattle.wv_model.specs.Toy.{Instr, Idle, Say, Invoke, Throw, Catch, Return, Uncaught, Spot, At, blocks, expand, toy, toy_rules, frame_at, moved_to, behind_catch, caught_at, behind_catching_spot, hooked, woven, lead, ToyRuns, at_spot, at_call, at_end, ToyWaits, for_hook, for_instr, AllOne, all_one, toy_relation}
 use Rattle.wv_model.proofs.Turns.{caught_agree}
 
@@ -123,8 +124,21 @@ module _ (body : ℕ → List Spot) where
         answered = answered;
         catches = catches;
         last_alike = λ w method value value' h k alike gives. refl;
-        uncaught_alike = uncaught_alike
+        uncaught_alike = uncaught_alike;
       }
+
+still_runs : (w later method n : ℕ) (f : Frame toy (List Instr)) (g : Frame toy (List Spot)) → ToyRuns w method n f g → ToyRuns later method n f g
+still_runs w later method _ _ _ at_spot = at_spot
+still_runs w later method _ _ _ at_call = at_call
+still_runs w later method _ _ _ at_end = at_end
+
+pub toy_thread_laws : (body : ℕ → List Spot) (factor : ℕ) → 3 ≤ factor → ThreadLaws factor toy_rules (λ i. woven body) (λ i. hooked body) toy_relation
+toy_thread_laws body factor most =
+    record {
+      each = λ i. toy_laws body factor most;
+      still_runs = λ w later method n f g l runs. still_runs w later method n f g runs;
+      still_thrown = λ w later thrown thrown' l same. same;
+    }
 
 -- the starts of a method of the toy are related
 pub toy_starts : (body : ℕ → List Spot) (said method : ℕ) → ToyRuns said method (lead (body method)) ((woven body).enter method []) ((hooked body).enter method [])

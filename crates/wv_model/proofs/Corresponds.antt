@@ -17,8 +17,8 @@ module _ (factor : ℕ) {S T Piece Ending : Type 0} (first : Machine S Piece End
       let here = sym (advance_going first s h) in
       let there = sym (advance_going second t (sym (law.same_ending n s t r) ∙ h)) in
       elim (law.moves n s t r h) [
-        inl l ↦ (0, omega arith, (l.0, subst (λ x. Related l.0 x t) here l.2))
-      | inr l ↦ (1, omega arith, (l.0, subst (λ x. Related l.0 x (advance second t)) here (subst (λ y. Related l.0 (first.step s) y) there l.1)))
+        | inl l ↦ (0, omega arith, (l.0, subst (λ x. Related l.0 x t) here l.2))
+        | inr l ↦ (1, omega arith, (l.0, subst (λ x. Related l.0 x (advance second t)) here (subst (λ y. Related l.0 (first.step s) y) there l.1)))
       ]
 
   forward : (b n : ℕ) (s : S) (t : T) → Related n s t → (m : ℕ) × (m ≤ b) × Joined b s m t
@@ -34,17 +34,17 @@ module _ (factor : ℕ) {S T Piece Ending : Type 0} (first : Machine S Piece End
   catch_up zero n s t le going r =
       let ended = law.same_ending n s t r ∙ going in
       elim (law.moves n s t r ended) [
-        inl l ↦ absurd (omega (arith, l.1))
-      | inr l ↦ record { quiet = 0; few = omega arith; unseen = law.same_trace n s t r; going = ended; number = l.0; related = subst (λ x. Related l.0 x (second.step t)) (sym (advance_going first s ended)) l.1 }
+        | inl l ↦ absurd (omega (arith, l.1))
+        | inr l ↦ record { quiet = 0; few = omega arith; unseen = law.same_trace n s t r; going = ended; number = l.0; related = subst (λ x. Related l.0 x (second.step t)) (sym (advance_going first s ended)) l.1 }
       ]
   catch_up (suc fuel) n s t le going r =
       let ended = law.same_ending n s t r ∙ going in
       let here = sym (advance_going first s ended) in
       elim (law.moves n s t r ended) [
-        inl l ↦
-          let f = subst (λ x. Follows (suc l.0) first second Related x t) here (catch_up fuel l.0 (first.step s) t (omega (arith, l.1)) going l.2) in
-          record { quiet = suc f.quiet; few = omega (arith, f.few, l.1); unseen = f.unseen; going = f.going; number = f.number; related = f.related }
-      | inr l ↦ record { quiet = 0; few = omega arith; unseen = law.same_trace n s t r; going = ended; number = l.0; related = subst (λ x. Related l.0 x (second.step t)) here l.1 }
+        | inl l ↦
+            let f = subst (λ x. Follows (suc l.0) first second Related x t) here (catch_up fuel l.0 (first.step s) t (omega (arith, l.1)) going l.2) in
+            record { quiet = suc f.quiet; few = omega (arith, f.few, l.1); unseen = f.unseen; going = f.going; number = f.number; related = f.related }
+        | inr l ↦ record { quiet = 0; few = omega arith; unseen = law.same_trace n s t r; going = ended; number = l.0; related = subst (λ x. Related l.0 x (second.step t)) here l.1 }
       ]
 
   pub follows : (n : ℕ) (s : S) (t : T) → second.ending t ≡ None → Related n s t → Follows factor first second Related s t

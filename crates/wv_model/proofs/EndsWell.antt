@@ -51,7 +51,7 @@ module _ (code : ℕ → List Instr) (each : (method : ℕ) → EndsWell (code m
         waiting_method = waiting_method;
         runs = λ w method frame said sound well. (tt, tt, runs w method frame said well);
         answered = λ w method called value frame waits gives. answered w method called value frame waits;
-        catches = λ w method called thrown frame said sound waits throws. catches w method called thrown frame said waits
+        catches = λ w method called thrown frame said sound waits throws. catches w method called thrown frame said waits;
       }
 
   pub starts_well : (method : ℕ) → RunsWell tt method ((plain code).enter method [])

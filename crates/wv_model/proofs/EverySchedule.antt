@@ -30,8 +30,8 @@ module _ (factor : ℕ) {S T Piece Ending : Type 0} (first : Threaded S Piece En
       let here = sym (thread_going first i s h) in
       let there = sym (thread_going second i t (sym (law.same_ending numbers s t r i) ∙ h)) in
       elim (law.moves numbers s t r i h) [
-        inl l ↦ ([], omega arith, (l.0, subst (λ x. Related l.0 x t) here l.2))
-      | inr l ↦ (i ∷ [], omega arith, (l.0, subst (λ x. Related l.0 x (advance_thread second i t)) here (subst (λ y. Related l.0 (first.step i s) y) there l.1)))
+        | inl l ↦ ([], omega arith, (l.0, subst (λ x. Related l.0 x t) here l.2))
+        | inr l ↦ (i ∷ [], omega arith, (l.0, subst (λ x. Related l.0 x (advance_thread second i t)) here (subst (λ y. Related l.0 (first.step i s) y) there l.1)))
       ]
 
   to_second : (schedule : List ℕ) (s : S) (t : T) → Joined s t → (other : List ℕ) × (length other ≤ length schedule) × Joined (follow first schedule s) (follow second other t)
@@ -56,16 +56,16 @@ module _ (factor : ℕ) {S T Piece Ending : Type 0} (first : Threaded S Piece En
   catch_up zero i numbers s t le going r =
       let here = law.same_ending numbers s t r i ∙ going in
       elim (law.moves numbers s t r i here) [
-        inl l ↦ absurd (omega (arith, l.1))
-      | inr l ↦ last_turn i zero s t here l
+        | inl l ↦ absurd (omega (arith, l.1))
+        | inr l ↦ last_turn i zero s t here l
       ]
   catch_up (suc fuel) i numbers s t le going r =
       let here = law.same_ending numbers s t r i ∙ going in
       elim (law.moves numbers s t r i here) [
-        inl l ↦
-          let rest = catch_up fuel i l.0 (first.step i s) t (omega (arith, l.1)) going l.2 in
-          (i ∷ rest.0, omega (arith, rest.1), subst (λ x. Joined (follow first rest.0 x) (second.step i t)) (sym (thread_going first i s here)) rest.2)
-      | inr l ↦ last_turn i (suc fuel) s t here l
+        | inl l ↦
+            let rest = catch_up fuel i l.0 (first.step i s) t (omega (arith, l.1)) going l.2 in
+            (i ∷ rest.0, omega (arith, rest.1), subst (λ x. Joined (follow first rest.0 x) (second.step i t)) (sym (thread_going first i s here)) rest.2)
+        | inr l ↦ last_turn i (suc fuel) s t here l
       ]
 
   one_back : (i : ℕ) (numbers : ℕ → ℕ) (s : S) (t : T) (o : Option Ending) → second.ending i t ≡ o → Related numbers s t → (turns : List ℕ) × (length turns ≤ factor) × Joined (follow first turns s) (advance_thread second i t)
@@ -88,5 +88,5 @@ module _ (factor : ℕ) {S T Piece Ending : Type 0} (first : Threaded S Piece En
   schedules_correspond numbers s t r =
       record {
         to_second = λ schedule. let (other, few, joined) = to_second schedule s t (numbers, r) in (other, few, looks_same _ _ joined);
-        to_first = λ schedule. let (other, few, joined) = to_first schedule s t (numbers, r) in (other, few, looks_same _ _ joined)
+        to_first = λ schedule. let (other, few, joined) = to_first schedule s t (numbers, r) in (other, few, looks_same _ _ joined);
       }

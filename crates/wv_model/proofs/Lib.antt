@@ -6,3 +6,4 @@ pub mod Lift
 pub mod Safety
 pub mod Blocks
 pub mod EndsWell
+pub mod ThreadsLift

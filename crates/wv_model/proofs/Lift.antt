@@ -11,6 +11,7 @@ use Rattle.wv_model.specs.Step.{State, turn, step, machine, start}
 use Rattle.wv_model.specs.FrameRelation.{FrameRelation}
 use Rattle.wv_model.specs.FrameLaws.{FrameLaws}
 use Rattle.wv_model.specs.Lifted.{Waiting, none_below, RelatedFrames, running, throwing, QuietTurn, BothGo, BothEnd, TurnsAgree, GoOn, HaveEnded, Lifted}
+use Rattle.wv_model.proofs.Runs.{same_with_more}
 use Rattle.wv_model.proofs.Turns.{turns_agree}
 use Rattle.wv_model.proofs.Corresponds as Law
 
@@ -19,7 +20,7 @@ pub machine_grows : {D : Domain} {P : Type 0} (rules : Rules D) (control : Contr
 machine_grows rules control state = ((turn rules control state.frames state.shared).shown, refl)
 
 module _ (factor : ℕ) {D : Domain} {P Q : Type 0} (rules : Rules D) (first : Control D P) (second : Control D Q) (R : FrameRelation D P Q) (law : FrameLaws factor rules first second R) where
-  frames_below : {w : R.World} {n : ℕ} {fs : List (Frame D P)} {gs : List (Frame D Q)} → 0 < factor → RelatedFrames R w n fs gs → n < factor
+  pub frames_below : {w : R.World} {n : ℕ} {fs : List (Frame D P)} {gs : List (Frame D Q)} → 0 < factor → RelatedFrames R w n fs gs → n < factor
   frames_below some (running runs waiting) = law.below _ _ _ _ _ runs
   frames_below some (throwing waits throws waiting) = some
 
@@ -38,15 +39,15 @@ module _ (factor : ℕ) {D : Domain} {P Q : Type 0} (rules : Rules D) (first : C
 
   joint_step : (s : State D P) (t : State D Q) (w : R.World) → s.trace ≡ t.trace → TurnsAgree R w (turn rules first s.frames s.shared) (turn rules second t.frames t.shared) → Matches (machine rules first) (machine rules second) (Lifted R) s t
   joint_step s t w same (shown, inl both) =
-      (both.number, record { same_trace = cc; either = inl (record { first_goes = both.first_goes; second_goes = both.second_goes; world = both.world; alike = both.alike; frames = both.frames }) })
+      (both.number, record { same_trace = same_with_more _ _ _ _ same shown; either = inl (record { first_goes = both.first_goes; second_goes = both.second_goes; world = both.world; alike = both.alike; frames = both.frames }) })
   joint_step s t w same (shown, inr both) =
-      (zero, record { same_trace = cc; either = inr (record { none_left = refl; ending = both.ending; first_ended = both.first_ends; second_ended = both.second_ends }) })
+      (zero, record { same_trace = same_with_more _ _ _ _ same shown; either = inr (record { none_left = refl; ending = both.ending; first_ended = both.first_ends; second_ended = both.second_ends }) })
 
   moves : (n : ℕ) (s : State D P) (t : State D Q) → s.trace ≡ t.trace → GoOn R n s t ⊎ HaveEnded n s t → s.ending ≡ None → Lowers (machine rules first) (Lifted R) n s t ⊎ Matches (machine rules first) (machine rules second) (Lifted R) s t
   moves n s t same (inl both) going =
       elim (turns_agree factor rules first second R law both.world n s.frames t.frames s.shared t.shared both.alike both.frames) [
-        inl quiet ↦ inl (quiet_step n s t both.world same both.second_goes quiet)
-      | inr agree ↦ inr (joint_step s t both.world same agree)
+        | inl quiet ↦ inl (quiet_step n s t both.world same both.second_goes quiet)
+        | inr agree ↦ inr (joint_step s t both.world same agree)
       ]
   moves n s t same (inr both) going = let ended = both.first_ended in absurd (cc (ended, going))
 
@@ -57,7 +58,7 @@ module _ (factor : ℕ) {D : Domain} {P Q : Type 0} (rules : Rules D) (first : C
         below = λ n s t lifted. number_below n s t some lifted.either;
         same_trace = λ n s t lifted. lifted.same_trace;
         same_ending = λ n s t lifted. endings_alike n s t lifted.either;
-        moves = λ n s t lifted going. moves n s t lifted.same_trace lifted.either going
+        moves = λ n s t lifted going. moves n s t lifted.same_trace lifted.either going;
       }
 
   -- and so runs from related start frames correspond

@@ -10,6 +10,9 @@ begins_itself front = ([], sym (append-nil front))
 pub begins_on : {Piece : Type 0} (a b c : List Piece) → Begins a b → Begins b c → Begins a c
 begins_on a b c (more, e) (rest, f) = (more ++ rest, f ∙ ap (λ l. l ++ rest) e ∙ append_assoc a more rest)
 
+pub same_with_more : {Piece : Type 0} (a b x y : List Piece) → a ≡ b → x ≡ y → a ++ x ≡ b ++ y
+same_with_more a b x y e f = ap (λ l. l ++ x) e ∙ ap (λ l. b ++ l) f
+
 pub ended_of : {Ending : Type 0} (o : Option Ending) (ending : Ending) → finish_of o ≡ Ended ending → o ≡ Some ending
 ended_of (Some other) ending h = cc
 ended_of None ending h = cc
@@ -65,8 +68,7 @@ module _ {State Piece Ending : Type 0} (m : Machine State Piece Ending) where
 
 -- machines that correspond have the same runs among those that end
 pub ends_alike : {S T Piece Ending : Type 0} (first : Machine S Piece Ending) (second : Machine T Piece Ending) (s : S) (t : T) → Corresponds first s second t → EndsAlike first s second t
-ends_alike first second s t law seen e h =
-    (
-      λ f. (f.0, law.ends_of_first f.0 e (ap (λ r. r.finish) f.1 ∙ h) ∙ f.1),
-      λ f. (steps_for_one * (f.0 + 1), law.ends_of_second f.0 e (ap (λ r. r.finish) f.1 ∙ h) ∙ f.1)
-    )
+ends_alike first second s t law seen e h = (
+  λ f. (f.0, law.ends_of_first f.0 e (ap (λ r. r.finish) f.1 ∙ h) ∙ f.1),
+  λ f. (steps_for_one * (f.0 + 1), law.ends_of_second f.0 e (ap (λ r. r.finish) f.1 ∙ h) ∙ f.1),
+)

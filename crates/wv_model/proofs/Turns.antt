@@ -18,7 +18,7 @@ caught_agree R (Some f) None w method thrown thrown' h k alike throws catch = ab
 caught_agree R None (Some g) w method thrown thrown' h k alike throws catch = absurd catch
 
 module _ (factor : ℕ) {D : Domain} {P Q : Type 0} (rules : Rules D) (first : Control D P) (second : Control D Q) (R : FrameRelation D P Q) (law : FrameLaws factor rules first second R) where
-  waiting_later : {w later : R.World} {called : D.Method} {fs : List (Frame D P)} {gs : List (Frame D Q)} → R.Later w later → Waiting R w called fs gs → Waiting R later called fs gs
+  pub waiting_later : {w later : R.World} {called : D.Method} {fs : List (Frame D P)} {gs : List (Frame D Q)} → R.Later w later → Waiting R w called fs gs → Waiting R later called fs gs
   waiting_later l none_below = none_below
   waiting_later l (one_below waits rest) =
       one_below (law.still_waits _ _ _ _ _ _ l waits) (waiting_later l rest)
@@ -31,27 +31,27 @@ module _ (factor : ℕ) {D : Domain} {P Q : Type 0} (rules : Rules D) (first : C
   pushed_agree true true w later called f g fs gs h k shown shown' e l alike (n, runs) waiting same =
       (same, inl (record { first_goes = refl; second_goes = refl; world = later; is_later = l; alike = alike; number = n; frames = running runs waiting }))
   pushed_agree false false w later called f g fs gs h k shown shown' e l alike runs waiting same =
-      (same, inr (record { ending = rules.deep; first_ends = refl; second_ends = refl }))
+      (same, inr (record { ending = rules.deep; first_ends = refl; second_ends = refl; world = later; is_later = l; alike = alike }))
   pushed_agree true false w later called f g fs gs h k shown shown' e l alike runs waiting same = absurd cc
   pushed_agree false true w later called f g fs gs h k shown shown' e l alike runs waiting same = absurd cc
 
   given_agree : (w later : R.World) (called : D.Method) (value value' : Option D.Value) (fs : List (Frame D P)) (gs : List (Frame D Q)) (h k : D.Shared) (shown shown' : List D.Piece) → R.Later w later → R.Alike later h k → R.Given later called value value' → Waiting R later called fs gs → shown ≡ shown' → TurnsAgree R w (given rules first called value fs h shown) (given rules second called value' gs k shown')
   given_agree w later called value value' _ _ h k shown shown' l alike gives none_below same =
       let last = law.last_alike later called value value' h k alike gives in
-      (cc, inr (record { ending = rules.returned; first_ends = refl; second_ends = refl }))
+      (cc, inr (record { ending = rules.returned; first_ends = refl; second_ends = refl; world = later; is_later = l; alike = alike }))
   given_agree w later called value value' _ _ h k shown shown' l alike gives (one_below waits rest) same =
       let (n, runs) = law.answered _ _ _ _ _ _ _ waits gives in
       (same, inl (record { first_goes = refl; second_goes = refl; world = later; is_later = l; alike = alike; number = n; frames = running runs rest }))
 
   passed_agree : (w later : R.World) (called : D.Method) (thrown thrown' : D.Thrown) (fs : List (Frame D P)) (gs : List (Frame D Q)) (h k : D.Shared) (shown shown' : List D.Piece) → R.Later w later → R.Alike later h k → R.Thrown later thrown thrown' → Waiting R later called fs gs → shown ≡ shown' → TurnsAgree R w (passed_down rules thrown fs h shown) (passed_down rules thrown' gs k shown')
   passed_agree w later called thrown thrown' _ _ h k shown shown' l alike throws none_below same =
-      (same, inr (record { ending = rules.uncaught thrown h; first_ends = refl; second_ends = ap Some (sym (law.uncaught_alike later thrown thrown' h k alike throws)) }))
+      (same, inr (record { ending = rules.uncaught thrown h; first_ends = refl; second_ends = ap Some (sym (law.uncaught_alike later thrown thrown' h k alike throws)); world = later; is_later = l; alike = alike }))
   passed_agree w later called thrown thrown' _ _ h k shown shown' l alike throws (one_below waits rest) same =
       (same, inl (record { first_goes = refl; second_goes = refl; world = later; is_later = l; alike = alike; number = zero; frames = throwing waits throws rest }))
 
   thrown_agree : (b : Bool) (w later : R.World) (called : D.Method) (thrown thrown' : D.Thrown) (fs : List (Frame D P)) (gs : List (Frame D Q)) (h k : D.Shared) (shown shown' : List D.Piece) → R.Later w later → R.Alike later h k → R.Thrown later thrown thrown' → Waiting R later called fs gs → shown ≡ shown' → TurnsAgree R w (thrown_from b rules thrown fs h shown) (thrown_from b rules thrown' gs k shown')
   thrown_agree true w later called thrown thrown' fs gs h k shown shown' l alike throws waiting same =
-      (same, inr (record { ending = rules.uncaught thrown h; first_ends = refl; second_ends = ap Some (sym (law.uncaught_alike later thrown thrown' h k alike throws)) }))
+      (same, inr (record { ending = rules.uncaught thrown h; first_ends = refl; second_ends = ap Some (sym (law.uncaught_alike later thrown thrown' h k alike throws)); world = later; is_later = l; alike = alike }))
   thrown_agree false w later called thrown thrown' fs gs h k shown shown' l alike throws waiting same =
       passed_agree w later called thrown thrown' fs gs h k shown shown' l alike throws waiting same
 
@@ -68,8 +68,8 @@ module _ (factor : ℕ) {D : Domain} {P Q : Type 0} (rules : Rules D) (first : C
   settled_agree (Leaves thrown h') (Leaves thrown' k') w later method n f g fs gs h k shown shown' ef eg l alike waiting frames same (alike', throws) =
       let agree = thrown_agree (rules.is_initializer f.method) w later method thrown thrown' fs gs h' k' shown shown' l alike' throws (waiting_later l waiting) same in
       subst (λ m. TurnsAgree R w (thrown_from (rules.is_initializer f.method) rules thrown fs h' shown) (thrown_from (rules.is_initializer m) rules thrown' gs k' shown')) (ef ∙ sym eg) agree
-  settled_agree (Ends ending h') (Ends ending' k') w later method n f g fs gs h k shown shown' ef eg l alike waiting frames same e =
-      (same, inr (record { ending = ending; first_ends = refl; second_ends = ap Some (sym e) }))
+  settled_agree (Ends ending h') (Ends ending' k') w later method n f g fs gs h k shown shown' ef eg l alike waiting frames same (alike', e) =
+      (same, inr (record { ending = ending; first_ends = refl; second_ends = ap Some (sym e); world = later; is_later = l; alike = alike' }))
   settled_agree Sticks Sticks w later method n f g fs gs h k shown shown' ef eg l alike waiting frames same agree =
       (refl, inl (record { first_goes = refl; second_goes = refl; world = w; is_later = law.same_world w; alike = alike; number = n; frames = frames }))
   settled_agree _ _ w later method n f g fs gs h k shown shown' ef eg l alike waiting frames same agree = absurd agree
@@ -85,8 +85,8 @@ module _ (factor : ℕ) {D : Domain} {P Q : Type 0} (rules : Rules D) (first : C
   turns_agree w n _ _ h k alike (running {method} {f} {g} {fs} {gs} runs waiting) =
       let (ef, eg) = law.running_method w method n f g runs in
       elim (law.runs w method n f g h k alike runs) [
-        inl quiet ↦ inl (settled_quietly _ w quiet.0 method n f g fs gs h k _ quiet.1 waiting quiet.2 quiet.3)
-      | inr both ↦ inr (settled_agree _ _ w both.0 method n f g fs gs h k _ _ ef eg both.1 alike waiting (running runs waiting) both.2 both.3)
+        | inl quiet ↦ inl (settled_quietly _ w quiet.0 method n f g fs gs h k _ quiet.1 waiting quiet.2 quiet.3)
+        | inr both ↦ inr (settled_agree _ _ w both.0 method n f g fs gs h k _ _ ef eg both.1 alike waiting (running runs waiting) both.2 both.3)
       ]
   turns_agree w _ _ _ h k alike (throwing {method} {called} {thrown} {thrown'} {f} {g} {fs} {gs} waits throws waiting) =
       let (ef, eg) = law.waiting_method w method called f g waits in

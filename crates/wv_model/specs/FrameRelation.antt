@@ -31,7 +31,7 @@ Agree {D} {P} {Q} R w method (Calls f entered h) (Calls g entered' k) =
     R.Alike w h k × ((called : D.Method) × R.Waits w method called f g × Running R w called entered entered')
 Agree {D} {P} {Q} R w method (Gives value h) (Gives value' k) = R.Alike w h k × R.Given w method value value'
 Agree {D} {P} {Q} R w method (Leaves thrown h) (Leaves thrown' k) = R.Alike w h k × R.Thrown w thrown thrown'
-Agree {D} {P} {Q} R w method (Ends ending h) (Ends ending' k) = ending ≡ ending'
+Agree {D} {P} {Q} R w method (Ends ending h) (Ends ending' k) = R.Alike w h k × (ending ≡ ending')
 Agree {D} {P} {Q} R w method Sticks Sticks = Unit {0}
 Agree {D} {P} {Q} R w method _ _ = ⊥
 

@@ -13,3 +13,4 @@ pub mod FrameLaws
 pub mod Lifted
 pub mod Typing
 pub mod Toy
+pub mod Threads

@@ -36,15 +36,18 @@ pub record BothGo {D : Domain} {P Q : Type 0} (R : FrameRelation D P Q) (w : R.W
   pub number : ℕ
   pub frames : RelatedFrames R world number turn.frames turn'.frames
 
--- two turns that end alike
-pub record BothEnd {D : Domain} {P Q : Type 0} (turn : Turn D P) (turn' : Turn D Q) : Type 0 where
+-- two turns that end alike, and leave shared parts that are related in a later world
+pub record BothEnd {D : Domain} {P Q : Type 0} (R : FrameRelation D P Q) (w : R.World) (turn : Turn D P) (turn' : Turn D Q) : Type 0 where
   pub ending : D.Ending
   pub first_ends : turn.ending ≡ Some ending
   pub second_ends : turn'.ending ≡ Some ending
+  pub world : R.World
+  pub is_later : R.Later w world
+  pub alike : R.Alike world turn.shared turn'.shared
 
 -- two turns that show the same, and go on related or end alike
 abbrev pub TurnsAgree : {D : Domain} {P Q : Type 0} (R : FrameRelation D P Q) → R.World → Turn D P → Turn D Q → Type 0
-TurnsAgree R w turn turn' = (turn.shown ≡ turn'.shown) × (BothGo R w turn turn' ⊎ BothEnd turn turn')
+TurnsAgree R w turn turn' = (turn.shown ≡ turn'.shown) × (BothGo R w turn turn' ⊎ BothEnd R w turn turn')
 
 -- two states that go on, related in some world
 pub record GoOn {D : Domain} {P Q : Type 0} (R : FrameRelation D P Q) (n : ℕ) (s : State D P) (t : State D Q) : Type 0 where

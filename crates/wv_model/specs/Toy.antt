@@ -84,7 +84,7 @@ plain code =
       enter = λ method args. frame_at method (code method) args [];
       result = λ method value. value;
       answer = λ called value frame. record frame { place = behind frame.place };
-      catch = λ thrown said frame. moved_to frame (behind_catch frame.place)
+      catch = λ thrown said frame. moved_to frame (behind_catch frame.place);
     }
 
 -- the hook machine runs spots: it calls what is left of the first spot's methods, and then does its instruction
@@ -116,7 +116,7 @@ hooked body =
       enter = λ method args. frame_at method (body method) args [];
       result = λ method value. value;
       answer = λ called value frame. record frame { place = behind_spot frame.place };
-      catch = λ thrown said frame. moved_to frame (behind_catching_spot frame.place)
+      catch = λ thrown said frame. moved_to frame (behind_catching_spot frame.place);
     }
 
 -- the plain machine over the woven code
@@ -154,7 +154,7 @@ toy_relation =
       Runs = ToyRuns;
       Waits = ToyWaits;
       Given = λ said method value value'. value ≡ value';
-      Thrown = λ said thrown thrown'. thrown ≡ thrown'
+      Thrown = λ said thrown thrown'. thrown ≡ thrown';
     }
 
 -- code whose last instruction is a return
@@ -178,5 +178,5 @@ toy_typing =
       Runs = RunsWell;
       Waits = WaitsWell;
       Given = λ w method value. Unit {0};
-      Thrown = λ w thrown. Unit {0}
+      Thrown = λ w thrown. Unit {0};
     }

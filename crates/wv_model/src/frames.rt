@@ -34,17 +34,14 @@ pub trait FrameSimulation {
 /// keeps the frames related.
 pub fn turns_agree<S: FrameSimulation>()
     ensures { (w : S.relation.World) (n : ℕ) (fs : List (Frame S.domain S.FirstPlace)) (gs : List (Frame S.domain S.SecondPlace)) (h k : S.domain.Shared) → S.relation.Alike w h k → RelatedFrames S.relation w n fs gs → QuietTurn S.relation w n (turn S.rules S.first fs h) gs k ⊎ TurnsAgree S.relation w (turn S.rules S.first fs h) (turn S.rules S.second gs k) }
-{
-}
+{}
 
 /// Whole states whose frames are related make a simulation.
 pub fn states_simulate<S: FrameSimulation>()
     ensures { SimulatesWithin steps_for_one (machine S.rules S.first) (machine S.rules S.second) (Lifted S.relation) }
-{
-}
+{}
 
 /// Runs from related start frames correspond.
 pub fn starts_correspond<S: FrameSimulation>()
     ensures { (w : S.relation.World) (method : S.domain.Method) (n : ℕ) (f : Frame S.domain S.FirstPlace) (g : Frame S.domain S.SecondPlace) (h k : S.domain.Shared) → S.relation.Alike w h k → S.relation.Runs w method n f g → Corresponds (machine S.rules S.first) (start f h) (machine S.rules S.second) (start g k) }
-{
-}
+{}

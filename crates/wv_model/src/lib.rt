@@ -14,7 +14,7 @@ mod typing;
 
 pub use frames::{FrameSimulation, starts_correspond, states_simulate, turns_agree};
 pub use machine::{Growing, longer_run_keeps};
-pub use schedules::{ThreadSimulation, schedules_correspond};
+pub use schedules::{ThreadFrames, ThreadSimulation, schedules_correspond, threads_correspond};
 pub use simulation::{Simulation, correspond, ends_alike, keeps_pace};
-pub use toy::{toy_never_stuck, woven_toy_corresponds};
+pub use toy::{toy_never_stuck, woven_toy_corresponds, woven_toy_threads_correspond};
 pub use typing::{Typed, never_stuck};

@@ -20,5 +20,4 @@ pub trait Growing {
 pub fn longer_run_keeps<M: Growing>()
     ensures shown { (n more : ℕ) (s : M.State) → Begins (run M.machine n s).trace (run M.machine (n + more) s).trace }
     ensures ended { (n more : ℕ) (s : M.State) (e : M.Ending) → (run M.machine n s).finish ≡ Ended e → run M.machine (n + more) s ≡ run M.machine n s }
-{
-}
+{}

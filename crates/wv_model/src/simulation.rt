@@ -34,18 +34,15 @@ pub trait Simulation {
 /// with 800 steps of the first for one of the second.
 pub fn correspond<S: Simulation>()
     ensures { (n : ℕ) (s : S.First) (t : S.Second) → S.related n s t → Corresponds S.first s S.second t }
-{
-}
+{}
 
 /// From related states where the second goes on, the first takes 1 to 800 steps to a state related to the second's next,
 /// and shows nothing until the last of them.
 pub fn keeps_pace<S: Simulation>()
     ensures { (n : ℕ) (s : S.First) (t : S.Second) → S.related n s t → S.second.ending t ≡ None → Follows steps_for_one S.first S.second S.related s t }
-{
-}
+{}
 
 /// Machines that correspond have the same runs among those that end, so they also go on forever alike.
 pub fn ends_alike<S: Simulation>()
     ensures { (s : S.First) (t : S.Second) → Corresponds S.first s S.second t → EndsAlike S.first s S.second t }
-{
-}
+{}

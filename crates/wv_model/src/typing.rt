@@ -26,5 +26,4 @@ pub trait Typed {
 /// From a typed start frame no state that a run reaches is stuck: there is a row for every step.
 pub fn never_stuck<S: Typed>()
     ensures { (w : S.typing.World) (method : S.domain.Method) (frame : Frame S.domain S.Place) (shared : S.domain.Shared) → S.typing.Sound w shared → S.typing.Runs w method frame → (n : ℕ) → IsStuck S.control (after (machine S.rules S.control) n (start frame shared)) → ⊥ }
-{
-}
+{}

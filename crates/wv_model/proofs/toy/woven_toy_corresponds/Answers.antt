@@ -8,4 +8,4 @@ use Rattle.wv_model.proofs.toy.woven_toy_corresponds.Goals as goal
 pub returns : goal.returns
 returns c =
     λ body said method.
-        starts_correspond steps_for_one toy_rules (woven body) (hooked body) toy_relation (toy_laws body steps_for_one (omega arith)) (omega arith) said method (lead (body method)) ((woven body).enter method []) ((hooked body).enter method []) said said all_one (toy_starts body said method)
+    starts_correspond steps_for_one toy_rules (woven body) (hooked body) toy_relation (toy_laws body steps_for_one (omega arith)) (omega arith) said method (lead (body method)) ((woven body).enter method []) ((hooked body).enter method []) said said all_one (toy_starts body said method)
