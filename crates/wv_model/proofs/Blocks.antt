@@ -1,5 +1,5 @@
 -- The toy's woven code and its hook machine meet the laws on single frames.
-use Rattle.std.proofs.Common.{◌≡◌, ℕ, zero, suc, ◌<◌, ◌≤◌, ◌⊎◌, List, [], ◌∷◌, Option, Some, None, refl, sym, ap, ◌∙◌, subst, inl, inr, arith}
+use Rattle.std.proofs.Common.{◌≡◌, ℕ, suc, ◌<◌, ◌≤◌, ◌⊎◌, List, [], ◌∷◌, Option, Some, None, refl, sym, ap, ◌∙◌, subst, inl, inr, arith}
 use Rattle.wv_model.specs.Frame.{Frame, cleared}
 use Rattle.wv_model.specs.Course.{move, resumed}
 use Rattle.wv_model.specs.FrameRelation.{Running, IsQuiet, IsMatched, CatchAlike}

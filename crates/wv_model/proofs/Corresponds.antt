@@ -1,8 +1,8 @@
 -- The law of corresponding machines: a numbered relation gives correspondence for every budget.
-use Rattle.std.proofs.Common.{◌≡◌, ℕ, zero, suc, ◌+◌, ◌*◌, ◌<◌, ◌≤◌, ◌⊎◌, List, Option, Some, None, refl, sym, ap, ◌∙◌, subst, arith, inl, inr}
+use Rattle.std.proofs.Common.{◌≡◌, ℕ, zero, suc, ◌+◌, ◌*◌, ◌≤◌, Option, Some, None, refl, sym, ap, ◌∙◌, subst, arith, inl, inr}
 use Rattle.wv_model.specs.Machine.{Machine, advance, after, Ended, run, Begins, Grows}
 use Rattle.wv_model.specs.Corresponds.{CorrespondsWithin}
-use Rattle.wv_model.specs.Simulates.{Numbered, Lowers, Matches, SimulatesWithin, Follows}
+use Rattle.wv_model.specs.Simulates.{Numbered, SimulatesWithin, Follows}
 use Rattle.wv_model.proofs.Runs.{same_run, ended_of, advance_ended, advance_going, after_more, stays_ended, grows_between}
 
 module _ (factor : ℕ) {S T Piece Ending : Type 0} (first : Machine S Piece Ending) (second : Machine T Piece Ending) (Related : Numbered S T) (law : SimulatesWithin factor first second Related) where

@@ -1,5 +1,5 @@
 -- No step of the toy's code is stuck, where each method ends well.
-use Rattle.std.proofs.Common.{◌≡◌, ℕ, suc, List, [], ◌∷◌, Option, Some, None, refl}
+use Rattle.std.proofs.Common.{◌≡◌, ℕ, List, [], ◌∷◌, Option, refl}
 use Rattle.wv_model.specs.Frame.{Frame, cleared}
 use Rattle.wv_model.specs.Course.{move, resumed}
 use Rattle.wv_model.specs.Typing.{Keeps, CatchKeeps, TypingLaws}

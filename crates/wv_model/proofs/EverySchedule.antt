@@ -1,7 +1,7 @@
 -- The law of corresponding machines for schedules: each schedule of either machine has one of the other.
-use Rattle.std.proofs.Common.{◌≡◌, ℕ, zero, suc, ◌+◌, ◌*◌, ◌<◌, ◌≤◌, ◌⊎◌, List, [], ◌∷◌, ◌++◌, length, Option, Some, None, refl, sym, ap, ◌∙◌, subst, arith, inl, inr, length-append}
+use Rattle.std.proofs.Common.{◌≡◌, ℕ, zero, suc, ◌*◌, ◌≤◌, List, [], ◌∷◌, ◌++◌, length, Option, Some, None, refl, sym, ap, ◌∙◌, subst, arith, inl, inr, length-append}
 use Rattle.wv_model.specs.Machine.{unless_ended}
-use Rattle.wv_model.specs.Schedules.{Threaded, advance_thread, follow, LooksSame, SchedulesCorrespond, NumberedEach, LowersOf, MatchesOf, SimulatesEach}
+use Rattle.wv_model.specs.Schedules.{Threaded, advance_thread, follow, LooksSame, SchedulesCorrespond, NumberedEach, MatchesOf, SimulatesEach}
 
 module _ {State Piece Ending : Type 0} (m : Threaded State Piece Ending) where
   thread_ended : (i : ℕ) (s : State) (e : Ending) → m.ending i s ≡ Some e → advance_thread m i s ≡ s

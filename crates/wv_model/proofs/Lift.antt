@@ -1,5 +1,5 @@
 -- From the frames of a thread to the states of two machines.
-use Rattle.std.proofs.Common.{◌≡◌, ℕ, zero, ◌<◌, ◌⊎◌, List, [], ◌∷◌, ◌++◌, Option, Some, None, refl, sym, ap, ◌∙◌, subst, inl, inr}
+use Rattle.std.proofs.Common.{◌≡◌, ℕ, zero, ◌<◌, ◌⊎◌, List, ◌++◌, None, refl, sym, ap, ◌∙◌, subst, inl, inr}
 use Rattle.std.proofs.lemmas.List.{append-nil}
 use Rattle.wv_model.specs.Domain.{Domain}
 use Rattle.wv_model.specs.Machine.{Grows}
@@ -7,10 +7,10 @@ use Rattle.wv_model.specs.Simulates.{Lowers, Matches, SimulatesWithin}
 use Rattle.wv_model.specs.Corresponds.{CorrespondsWithin}
 use Rattle.wv_model.specs.Frame.{Frame}
 use Rattle.wv_model.specs.Control.{Control, Rules}
-use Rattle.wv_model.specs.Step.{State, turn, step, machine, start}
+use Rattle.wv_model.specs.Step.{State, turn, machine, start}
 use Rattle.wv_model.specs.FrameRelation.{FrameRelation}
 use Rattle.wv_model.specs.FrameLaws.{FrameLaws}
-use Rattle.wv_model.specs.Lifted.{Waiting, none_below, RelatedFrames, running, throwing, QuietTurn, BothGo, BothEnd, TurnsAgree, GoOn, HaveEnded, Lifted}
+use Rattle.wv_model.specs.Lifted.{none_below, RelatedFrames, running, throwing, QuietTurn, TurnsAgree, GoOn, HaveEnded, Lifted}
 use Rattle.wv_model.proofs.Runs.{same_with_more}
 use Rattle.wv_model.proofs.Turns.{turns_agree}
 use Rattle.wv_model.proofs.Corresponds as Law

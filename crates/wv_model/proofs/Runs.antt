@@ -1,7 +1,7 @@
 -- Runs of a machine: more steps, ended states, and what was shown.
-use Rattle.std.proofs.Common.{◌≡◌, ℕ, zero, suc, ◌+◌, ◌-◌, ◌*◌, ◌≤◌, List, [], ◌∷◌, ◌++◌, Option, Some, None, refl, sym, ap, ◌∙◌, subst, arith, append_assoc, zero-add}
+use Rattle.std.proofs.Common.{◌≡◌, ℕ, zero, suc, ◌+◌, ◌-◌, ◌*◌, ◌≤◌, List, [], ◌++◌, Option, Some, None, refl, sym, ap, ◌∙◌, subst, arith, append_assoc, zero-add}
 use Rattle.std.proofs.lemmas.List.{append-nil}
-use Rattle.wv_model.specs.Machine.{Machine, unless_ended, advance, after, Finish, Ended, Budget, finish_of, Run, run, Begins, Grows}
+use Rattle.wv_model.specs.Machine.{Machine, unless_ended, advance, after, Ended, finish_of, run, Begins, Grows}
 use Rattle.wv_model.specs.Corresponds.{Corresponds, EndsAlike, steps_for_one}
 
 pub begins_itself : {Piece : Type 0} (front : List Piece) → Begins front front

@@ -1,12 +1,12 @@
 -- From typings of single frames to runs in which no step is stuck.
-use Rattle.std.proofs.Common.{◌≡◌, ℕ, zero, suc, ◌<◌, ◌⊎◌, List, [], ◌∷◌, Option, Some, None, Bool, true, false, refl, sym, ap, ◌∙◌, subst, inl, inr}
+use Rattle.std.proofs.Common.{◌≡◌, ℕ, zero, suc, List, [], ◌∷◌, Option, Some, None, Bool, true, false, refl, sym, subst, inl, inr}
 use Rattle.wv_model.specs.Domain.{Domain}
-use Rattle.wv_model.specs.Machine.{Machine, unless_ended, advance, after}
-use Rattle.wv_model.specs.Frame.{Frame, struck, cleared}
+use Rattle.wv_model.specs.Machine.{unless_ended, advance, after}
+use Rattle.wv_model.specs.Frame.{Frame, struck}
 use Rattle.wv_model.specs.Control.{Control, Rules}
-use Rattle.wv_model.specs.Course.{Course, Goes, Calls, Gives, Leaves, Ends, Sticks, caught, move}
-use Rattle.wv_model.specs.Step.{Turn, State, pushed, given, passed_down, thrown_from, settled, turn, step, machine, start}
-use Rattle.wv_model.specs.Typing.{FrameTyping, Keeps, CatchKeeps, TypingLaws, FramesStick, IsStuck, TypedBelow, none_typed, one_typed, TypedFrames, typed_running, typed_throwing, GoesTyped, IsTyped}
+use Rattle.wv_model.specs.Course.{Course, Goes, Calls, Gives, Leaves, Ends, Sticks, caught}
+use Rattle.wv_model.specs.Step.{Turn, State, pushed, given, thrown_from, settled, turn, step, machine, start}
+use Rattle.wv_model.specs.Typing.{FrameTyping, Keeps, CatchKeeps, TypingLaws, FramesStick, IsStuck, TypedBelow, none_typed, one_typed, TypedFrames, typed_running, typed_throwing, IsTyped}
 
 -- a frame that catches in its typing, or is left by the throw, keeps it
 pub caught_typed : {D : Domain} {P : Type 0} (T : FrameTyping D P) (o : Option (Frame D P)) (w : T.World) (method : D.Method) (thrown : D.Thrown) (shared : D.Shared) → T.Sound w shared → T.Thrown w thrown → CatchKeeps T w method o → Keeps T w method (caught o thrown shared)

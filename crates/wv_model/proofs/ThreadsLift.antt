@@ -1,16 +1,16 @@
 -- From single frames to machines of threads.
-use Rattle.std.proofs.Common.{◌≡◌, ℕ, zero, ◌<◌, ◌⊎◌, List, [], ◌∷◌, ◌++◌, Option, Some, None, Bool, true, false, refl, sym, ap, ◌∙◌, subst, inl, inr}
+use Rattle.std.proofs.Common.{◌≡◌, ℕ, zero, ◌<◌, ◌⊎◌, List, ◌++◌, Option, None, Bool, true, false, refl, sym, ap, ◌∙◌, subst, inl, inr}
 use Rattle.std.specs.Prelude.{cond, nat_eq}
 use Rattle.std.proofs.lemmas.List.{append-nil}
 use Rattle.std.proofs.lemmas.Bool.{eqb-true, eq-eqb}
 use Rattle.wv_model.specs.Domain.{Domain}
 use Rattle.wv_model.specs.Frame.{Frame}
 use Rattle.wv_model.specs.Control.{Control, Rules}
-use Rattle.wv_model.specs.Step.{Turn, turn}
+use Rattle.wv_model.specs.Step.{turn}
 use Rattle.wv_model.specs.Schedules.{LowersOf, MatchesOf, SimulatesEach, SchedulesCorrespond}
 use Rattle.wv_model.specs.FrameRelation.{FrameRelation}
-use Rattle.wv_model.specs.Lifted.{Waiting, none_below, RelatedFrames, running, throwing, QuietTurn, BothGo, BothEnd, TurnsAgree}
-use Rattle.wv_model.specs.Threads.{ThreadsState, with_at, after_turn, threads, threads_start, ThreadLaws, ThreadGoes, ThreadEnded, ThreadRelated, LiftedThreads}
+use Rattle.wv_model.specs.Lifted.{none_below, RelatedFrames, running, throwing, QuietTurn, TurnsAgree}
+use Rattle.wv_model.specs.Threads.{ThreadsState, with_at, threads, threads_start, ThreadLaws, ThreadRelated, LiftedThreads}
 use Rattle.wv_model.proofs.Runs.{same_with_more}
 use Rattle.wv_model.proofs.Turns.{turns_agree, waiting_later}
 use Rattle.wv_model.proofs.Lift.{frames_below}

@@ -1,14 +1,14 @@
 -- From single frames to the frames of a whole thread.
-use Rattle.std.proofs.Common.{◌≡◌, ℕ, zero, suc, ◌<◌, ◌⊎◌, List, [], ◌∷◌, ◌++◌, length, Option, Some, None, Bool, true, false, refl, sym, ap, ◌∙◌, subst, inl, inr}
+use Rattle.std.proofs.Common.{◌≡◌, ℕ, zero, suc, ◌⊎◌, List, [], ◌∷◌, length, Option, Some, None, Bool, true, false, refl, sym, ap, ◌∙◌, subst, inl, inr}
 use Rattle.std.specs.Prelude.{nat_lt}
 use Rattle.wv_model.specs.Domain.{Domain}
-use Rattle.wv_model.specs.Frame.{Frame, struck, cleared}
+use Rattle.wv_model.specs.Frame.{Frame, struck}
 use Rattle.wv_model.specs.Control.{Control, Rules}
-use Rattle.wv_model.specs.Course.{Course, Goes, Calls, Gives, Leaves, Ends, Sticks, caught, move}
+use Rattle.wv_model.specs.Course.{Course, Goes, Calls, Gives, Leaves, Ends, Sticks, caught}
 use Rattle.wv_model.specs.Step.{frame_limit, pushed, given, passed_down, thrown_from, settled, turn}
-use Rattle.wv_model.specs.FrameRelation.{FrameRelation, Running, Agree, GoesQuietly, IsQuiet, IsMatched, CatchAlike}
+use Rattle.wv_model.specs.FrameRelation.{FrameRelation, Running, Agree, GoesQuietly, CatchAlike}
 use Rattle.wv_model.specs.FrameLaws.{FrameLaws}
-use Rattle.wv_model.specs.Lifted.{Waiting, none_below, one_below, RelatedFrames, running, throwing, QuietTurn, BothGo, BothEnd, TurnsAgree}
+use Rattle.wv_model.specs.Lifted.{Waiting, none_below, one_below, RelatedFrames, running, throwing, QuietTurn, TurnsAgree}
 
 -- frames that catch alike have courses that agree
 pub caught_agree : {D : Domain} {P Q : Type 0} (R : FrameRelation D P Q) (o : Option (Frame D P)) (o' : Option (Frame D Q)) (w : R.World) (method : D.Method) (thrown thrown' : D.Thrown) (h k : D.Shared) → R.Alike w h k → R.Thrown w thrown thrown' → CatchAlike R w method o o' → Agree R w method (caught o thrown h) (caught o' thrown' k)

@@ -1,6 +1,6 @@
 -- When two machines correspond, for every budget of steps. Our own.
 use Rattle.std.specs.Prelude.{◌≡◌, ◌↔◌, ℕ, ◌+◌, ◌*◌}
-use Rattle.wv_model.specs.Machine.{Machine, Finish, Ended, Run, run, Begins}
+use Rattle.wv_model.specs.Machine.{Machine, Ended, Run, run, Begins}
 
 -- so many steps of the first machine at most stand for one step of the second
 abbrev pub steps_for_one : ℕ

@@ -1,5 +1,5 @@
 -- What one frame does in its step. Our own.
-use Rattle.std.specs.Prelude.{ℕ, List, [], Option, Some, None, Bool, cond}
+use Rattle.std.specs.Prelude.{List, [], Option, Some, None, cond}
 use Rattle.wv_model.specs.Domain.{Domain}
 use Rattle.wv_model.specs.Effect.{Effect, Next, Jump, Call, Give, Raise, Init, End, Stuck, Row}
 use Rattle.wv_model.specs.Frame.{Frame, cleared}

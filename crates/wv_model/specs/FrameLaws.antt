@@ -1,5 +1,5 @@
 -- The laws on single frames from which whole states follow. Our own.
-use Rattle.std.specs.Prelude.{◌≡◌, ℕ, ◌<◌, ◌⊎◌, List, Option, Some, None}
+use Rattle.std.specs.Prelude.{◌≡◌, ℕ, ◌<◌, ◌⊎◌, Option}
 use Rattle.wv_model.specs.Domain.{Domain}
 use Rattle.wv_model.specs.Frame.{Frame, cleared}
 use Rattle.wv_model.specs.Control.{Control, Rules}

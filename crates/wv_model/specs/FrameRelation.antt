@@ -1,5 +1,5 @@
 -- How single frames of two machines are related. Our own.
-use Rattle.std.specs.Prelude.{◌≡◌, ℕ, ◌<◌, ◌⊎◌, List, [], Option, Some, None}
+use Rattle.std.specs.Prelude.{◌≡◌, ℕ, ◌<◌, [], Option, Some, None}
 use Rattle.wv_model.specs.Domain.{Domain}
 use Rattle.wv_model.specs.Frame.{Frame}
 use Rattle.wv_model.specs.Course.{Course, Goes, Calls, Gives, Leaves, Ends, Sticks, Move}

@@ -1,5 +1,5 @@
 -- How whole states are related, from the relation of single frames. Our own.
-use Rattle.std.specs.Prelude.{◌≡◌, ℕ, zero, ◌<◌, ◌⊎◌, List, [], ◌∷◌, Option, Some, None}
+use Rattle.std.specs.Prelude.{◌≡◌, ℕ, zero, ◌<◌, ◌⊎◌, List, [], ◌∷◌, Some, None}
 use Rattle.wv_model.specs.Domain.{Domain}
 use Rattle.wv_model.specs.Frame.{Frame, struck}
 use Rattle.wv_model.specs.Step.{Turn, State}

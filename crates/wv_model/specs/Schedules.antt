@@ -1,5 +1,5 @@
 -- Machines of several threads, one step for each entry of a schedule. Our own.
-use Rattle.std.specs.Prelude.{◌≡◌, ℕ, ◌<◌, ◌≤◌, ◌*◌, ◌⊎◌, List, [], ◌∷◌, length, Option, Some, None}
+use Rattle.std.specs.Prelude.{◌≡◌, ℕ, ◌<◌, ◌≤◌, ◌*◌, ◌⊎◌, List, [], ◌∷◌, length, Option, None}
 use Rattle.wv_model.specs.Machine.{unless_ended}
 
 -- a machine of threads: the step of a thread, what a state has shown, and how a thread has ended, if it has

@@ -1,5 +1,5 @@
 -- A relation with a number by which one machine follows another step by step. Our own.
-use Rattle.std.specs.Prelude.{◌≡◌, ℕ, suc, ◌<◌, ◌⊎◌, Option, Some, None}
+use Rattle.std.specs.Prelude.{◌≡◌, ℕ, suc, ◌<◌, ◌⊎◌, None}
 use Rattle.wv_model.specs.Machine.{Machine, after}
 
 -- a relation of states; the number says how many steps of the first machine may come before one of the second

@@ -1,5 +1,5 @@
 -- The one step that every machine of frames takes. Our own, after JVM Specification 2.6, 2.10 and 5.5.
-use Rattle.std.specs.Prelude.{ℕ, ◌<◌, List, [], ◌∷◌, ◌++◌, length, Option, Some, None, Bool, true, false, nat_lt}
+use Rattle.std.specs.Prelude.{ℕ, List, [], ◌∷◌, ◌++◌, length, Option, Some, None, Bool, true, false, nat_lt}
 use Rattle.wv_model.specs.Domain.{Domain}
 use Rattle.wv_model.specs.Frame.{Frame, struck}
 use Rattle.wv_model.specs.Control.{Control, Rules}

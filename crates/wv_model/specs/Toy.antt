@@ -1,7 +1,7 @@
 -- A small language whose methods have hooks, and its woven code: an instance that shows how the laws are used. Our own.
-use Rattle.std.specs.Prelude.{◌≡◌, ℕ, zero, suc, List, [], ◌∷◌, Option, Some, None, Bool, false}
+use Rattle.std.specs.Prelude.{◌≡◌, ℕ, suc, List, [], ◌∷◌, Option, Some, None, false}
 use Rattle.wv_model.specs.Domain.{Domain}
-use Rattle.wv_model.specs.Effect.{Effect, Next, Call, Give, Raise, Stuck, Row}
+use Rattle.wv_model.specs.Effect.{Next, Call, Give, Raise, Stuck, Row}
 use Rattle.wv_model.specs.Frame.{Frame}
 use Rattle.wv_model.specs.Control.{Control, Rules}
 use Rattle.wv_model.specs.FrameRelation.{FrameRelation}

@@ -1,5 +1,5 @@
 -- Facts on single frames from which no step of a whole run is stuck. Our own.
-use Rattle.std.specs.Prelude.{◌≡◌, ◌⊎◌, ℕ, List, [], ◌∷◌, Option, Some, None}
+use Rattle.std.specs.Prelude.{◌≡◌, ◌⊎◌, List, [], ◌∷◌, Option, Some, None}
 use Rattle.wv_model.specs.Domain.{Domain}
 use Rattle.wv_model.specs.Frame.{Frame, struck, cleared}
 use Rattle.wv_model.specs.Control.{Control, Rules}

@@ -1,4 +1,3 @@
-use Rattle.std.proofs.Common.{arith}
 use Rattle.wv_model.proofs.Runs.{longer_shows, longer_stays}
 use Rattle.wv_model.proofs.machine.longer_run_keeps.Goals as goal
 
