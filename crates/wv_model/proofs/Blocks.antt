@@ -2,10 +2,10 @@
 use Rattle.std.proofs.Common.{◌≡◌, ℕ, suc, ◌<◌, ◌≤◌, ◌⊎◌, List, [], ◌∷◌, Option, Some, None, refl, sym, ap, ◌∙◌, subst, inl, inr, arith}
 use Rattle.wv_model.specs.Frame.{Frame, cleared}
 use Rattle.wv_model.specs.Course.{move, resumed}
-use Rattle.wv_model.specs.FrameRelation.{Running, IsQuiet, IsMatched, CatchAlike}
+use Rattle.wv_model.specs.FrameRelation.{OneShared, one_shared, Running, IsQuiet, IsMatched, CatchAlike}
 use Rattle.wv_model.specs.FrameLaws.{FrameLaws}
 use Rattle.wv_model.specs.Threads.{ThreadLaws}
-use Rattle.wv_model.specs.Toy.{Instr, Idle, Say, Invoke, Throw, Catch, Return, Uncaught, Spot, At, blocks, expand, toy, toy_rules, frame_at, moved_to, behind_catch, caught_at, behind_catching_spot, hooked, woven, lead, ToyRuns, at_spot, at_call, at_end, ToyWaits, for_hook, for_instr, AllOne, all_one, toy_relation}
+use Rattle.wv_model.specs.Toy.{Instr, Idle, Say, Invoke, Throw, Catch, Return, Uncaught, Spot, At, blocks, expand, toy, toy_rules, frame_at, moved_to, behind_catch, caught_at, behind_catching_spot, hooked, woven, lead, ToyRuns, at_spot, at_call, at_end, ToyWaits, for_hook, for_instr, toy_relation}
 use Rattle.wv_model.proofs.Turns.{caught_agree}
 
 expanded : Option (List Spot) → Option (List Instr)
@@ -49,33 +49,33 @@ module _ (body : ℕ → List Spot) where
 
   instr_law : (instr : Instr) (said method : ℕ) (spots : List Spot) (locals stack : List ℕ) → Law said method 0 (frame_at method (instr ∷ expand spots) locals stack) (frame_at method (At [] instr ∷ spots) locals stack)
   unfolding Law
-  instr_law Idle said method spots locals stack = inr (said, tt, refl, (all_one, (lead spots, at_spot)))
+  instr_law Idle said method spots locals stack = inr (said, tt, refl, (one_shared, (lead spots, at_spot)))
   instr_law (Say number) said method spots locals stack =
-      inr (suc said, tt, refl, (all_one, (lead spots, at_spot)))
+      inr (suc said, tt, refl, (one_shared, (lead spots, at_spot)))
   instr_law (Invoke called) said method spots locals stack =
-      inr (said, tt, refl, (all_one, (called, for_instr, (lead (body called), at_spot))))
+      inr (said, tt, refl, (one_shared, (called, for_instr, (lead (body called), at_spot))))
   instr_law (Throw number) said method spots locals stack =
       let code = Throw number ∷ expand spots in
       let here = At [] (Throw number) ∷ spots in
       let catch = catch_alike said method locals stack code here (behind_catch code) (behind_catching_spot here) (catches_at here) in
-      inr (said, tt, refl, caught_agree toy_relation _ _ said method number number said said all_one refl catch)
-  instr_law Catch said method spots locals stack = inr (said, tt, refl, (all_one, (lead spots, at_spot)))
-  instr_law Return said method spots locals stack = inr (said, tt, refl, (all_one, refl))
+      inr (said, tt, refl, caught_agree toy_relation _ _ said method number number said said one_shared refl catch)
+  instr_law Catch said method spots locals stack = inr (said, tt, refl, (one_shared, (lead spots, at_spot)))
+  instr_law Return said method spots locals stack = inr (said, tt, refl, (one_shared, refl))
 
   spot_law : (spots : List Spot) (said method : ℕ) (locals stack : List ℕ) → Law said method (lead spots) (frame_at method (expand spots) locals stack) (frame_at method spots locals stack)
   unfolding Law
   spot_law [] said method locals stack = inr (said, tt, refl, tt)
   spot_law (At [] instr ∷ spots) said method locals stack = instr_law instr said method spots locals stack
   spot_law (At (called ∷ methods) instr ∷ spots) said method locals stack =
-      inl (said, tt, refl, (all_one, (0, omega arith, at_call)))
+      inl (said, tt, refl, (one_shared, (0, omega arith, at_call)))
 
-  runs : (w method n : ℕ) (f : Frame toy (List Instr)) (g : Frame toy (List Spot)) (h k : ℕ) → AllOne w h k → ToyRuns w method n f g → IsQuiet toy_relation w method n (move (woven body) f h) g k ⊎ IsMatched toy_relation w method (move (woven body) f h) (move (hooked body) g k)
+  runs : (w method n : ℕ) (f : Frame toy (List Instr)) (g : Frame toy (List Spot)) (h k : ℕ) → OneShared w h k → ToyRuns w method n f g → IsQuiet toy_relation w method n (move (woven body) f h) g k ⊎ IsMatched toy_relation w method (move (woven body) f h) (move (hooked body) g k)
   unfolding Law
-  runs w method _ _ _ _ _ all_one (at_spot {spots} {locals} {stack}) = spot_law spots w method locals stack
-  runs w method _ _ _ _ _ all_one (at_call {called} {methods} {instr} {spots} {locals} {stack}) =
-      inr (w, tt, refl, (all_one, (called, for_hook, (lead (body called), at_spot))))
-  runs w method _ _ _ _ _ all_one (at_end {spots} {locals} {stack}) =
-      inl (w, tt, refl, (all_one, (lead spots, lead_below_two spots, at_spot)))
+  runs w method _ _ _ _ _ one_shared (at_spot {spots} {locals} {stack}) = spot_law spots w method locals stack
+  runs w method _ _ _ _ _ one_shared (at_call {called} {methods} {instr} {spots} {locals} {stack}) =
+      inr (w, tt, refl, (one_shared, (called, for_hook, (lead (body called), at_spot))))
+  runs w method _ _ _ _ _ one_shared (at_end {spots} {locals} {stack}) =
+      inl (w, tt, refl, (one_shared, (lead spots, lead_below_two spots, at_spot)))
 
   still_waits : (w later method called : ℕ) (f : Frame toy (List Instr)) (g : Frame toy (List Spot)) → ToyWaits w method called f g → ToyWaits later method called f g
   still_waits w later method called _ _ for_hook = for_hook
@@ -99,18 +99,18 @@ module _ (body : ℕ → List Spot) where
   answered w method called value value' _ _ for_hook e = (2, at_end)
   answered w method called value value' _ _ (for_instr {spots}) e = (lead spots, at_spot)
 
-  catches : (w method called : ℕ) (thrown thrown' : ℕ) (f : Frame toy (List Instr)) (g : Frame toy (List Spot)) (h k : ℕ) → AllOne w h k → ToyWaits w method called f g → thrown ≡ thrown' → CatchAlike toy_relation w method ((woven body).catch thrown h (cleared f)) ((hooked body).catch thrown' k (cleared g))
-  catches w method called thrown thrown' _ _ _ _ all_one (for_hook {methods} {instr} {spots} {locals} {stack}) e =
+  catches : (w method called : ℕ) (thrown thrown' : ℕ) (f : Frame toy (List Instr)) (g : Frame toy (List Spot)) (h k : ℕ) → OneShared w h k → ToyWaits w method called f g → thrown ≡ thrown' → CatchAlike toy_relation w method ((woven body).catch thrown h (cleared f)) ((hooked body).catch thrown' k (cleared g))
+  catches w method called thrown thrown' _ _ _ _ one_shared (for_hook {methods} {instr} {spots} {locals} {stack}) e =
       let here = At (called ∷ methods) instr ∷ spots in
       let code = Invoke called ∷ (Idle ∷ expand (At methods instr ∷ spots)) in
       catch_alike w method locals stack code here (behind_catch code) (behind_catching_spot here) (catches_at here)
-  catches w method called thrown thrown' _ _ _ _ all_one (for_instr {spots} {locals} {stack}) e =
+  catches w method called thrown thrown' _ _ _ _ one_shared (for_instr {spots} {locals} {stack}) e =
       let here = At [] (Invoke called) ∷ spots in
       let code = Invoke called ∷ expand spots in
       catch_alike w method locals stack code here (behind_catch code) (behind_catching_spot here) (catches_at here)
 
-  uncaught_alike : (w thrown thrown' h k : ℕ) → AllOne w h k → thrown ≡ thrown' → toy_rules.uncaught thrown h ≡ toy_rules.uncaught thrown' k
-  uncaught_alike w thrown thrown' _ _ all_one e = ap Uncaught e
+  uncaught_alike : (w thrown thrown' h k : ℕ) → OneShared w h k → thrown ≡ thrown' → toy_rules.uncaught thrown h ≡ toy_rules.uncaught thrown' k
+  uncaught_alike w thrown thrown' _ _ one_shared e = ap Uncaught e
 
   pub toy_laws : (factor : ℕ) → 3 ≤ factor → FrameLaws factor toy_rules (woven body) (hooked body) toy_relation
   toy_laws factor most =

@@ -7,3 +7,4 @@ pub mod Safety
 pub mod Blocks
 pub mod EndsWell
 pub mod ThreadsLift
+pub mod Limit

@@ -20,6 +20,10 @@ pub record FrameRelation (D : Domain) (P Q : Type 0) : Type 1 where
   -- what is thrown
   pub Thrown : World → D.Thrown → D.Thrown → Type 0
 
+-- the shared parts of both machines are one and the same, and that is the world
+pub data OneShared {Shared : Type 0} : Shared → Shared → Shared → Type 0 where
+  one_shared : {shared : Shared} → OneShared shared shared shared
+
 -- two frames of a method that run, with some number
 abbrev pub Running : {D : Domain} {P Q : Type 0} (R : FrameRelation D P Q) → R.World → D.Method → Frame D P → Frame D Q → Type 0
 Running {D} {P} {Q} R w method f g = (n : ℕ) × R.Runs w method n f g

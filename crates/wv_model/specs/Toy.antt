@@ -1,11 +1,13 @@
 -- A small language whose methods have hooks, and its woven code: an instance that shows how the laws are used. Our own.
-use Rattle.std.specs.Prelude.{◌≡◌, ℕ, suc, List, [], ◌∷◌, Option, Some, None, false}
+use Rattle.std.specs.Prelude.{zero, ◌≡◌, ℕ, suc, List, [], ◌∷◌, Option, Some, None, false}
 use Rattle.wv_model.specs.Domain.{Domain}
 use Rattle.wv_model.specs.Effect.{Next, Call, Give, Raise, Stuck, Row}
 use Rattle.wv_model.specs.Frame.{Frame}
 use Rattle.wv_model.specs.Control.{Control, Rules}
-use Rattle.wv_model.specs.FrameRelation.{FrameRelation}
+use Rattle.wv_model.specs.FrameRelation.{FrameRelation, OneShared}
 use Rattle.wv_model.specs.Typing.{FrameTyping}
+use Rattle.wv_model.specs.Machine.{Run, run}
+use Rattle.wv_model.specs.Step.{machine, start}
 
 -- an instruction: to do nothing, show a number, call a method, throw a number, catch what was thrown before it, return
 pub data Instr : Type 0 where
@@ -140,17 +142,13 @@ pub data ToyWaits : ℕ → ℕ → ℕ → Frame toy (List Instr) → Frame toy
   for_hook : {said method called : ℕ} {methods : List ℕ} {instr : Instr} {spots : List Spot} {locals stack : List ℕ} → ToyWaits said method called (frame_at method (Invoke called ∷ (Idle ∷ expand (At methods instr ∷ spots))) locals stack) (frame_at method (At (called ∷ methods) instr ∷ spots) locals stack)
   for_instr : {said method called : ℕ} {spots : List Spot} {locals stack : List ℕ} → ToyWaits said method called (frame_at method (Invoke called ∷ expand spots) locals stack) (frame_at method (At [] (Invoke called) ∷ spots) locals stack)
 
--- three numbers that are one
-pub data AllOne : ℕ → ℕ → ℕ → Type 0 where
-  all_one : {said : ℕ} → AllOne said said said
-
 -- a world is the shared part, which is the same in both machines
 abbrev pub toy_relation : FrameRelation toy (List Instr) (List Spot)
 toy_relation =
     record {
       World = ℕ;
       Later = λ said later. Unit {0};
-      Alike = AllOne;
+      Alike = OneShared;
       Runs = ToyRuns;
       Waits = ToyWaits;
       Given = λ said method value value'. value ≡ value';
@@ -180,3 +178,20 @@ toy_typing =
       Given = λ w method value. Unit {0};
       Thrown = λ w thrown. Unit {0};
     }
+
+-- a program: method 0 says 5 and is hooked by methods 1 and 2, the second of which catches what it throws; method 3
+-- throws what nothing catches, out of method 4
+abbrev pub example : ℕ → List Spot
+example zero = At (1 ∷ 2 ∷ []) (Say 5) ∷ At [] Return ∷ []
+example (suc zero) = At [] (Say 1) ∷ At [] Return ∷ []
+example (suc (suc zero)) = At [] (Throw 9) ∷ At [] (Say 8) ∷ At [] Catch ∷ At [] (Say 2) ∷ At [] Return ∷ []
+example (suc (suc (suc zero))) = At [] (Throw 7) ∷ At [] Return ∷ []
+example (suc (suc (suc (suc zero)))) = At (3 ∷ []) (Say 6) ∷ At [] Return ∷ []
+example _ = []
+
+-- the run of a method of the example under its hooks, and woven
+abbrev pub hooked_example : ℕ → ℕ → Run ℕ ToyEnding
+hooked_example method n = run (machine toy_rules (hooked example)) n (start ((hooked example).enter method []) 0)
+
+abbrev pub woven_example : ℕ → ℕ → Run ℕ ToyEnding
+woven_example method n = run (machine toy_rules (woven example)) n (start ((woven example).enter method []) 0)

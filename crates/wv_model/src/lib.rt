@@ -9,6 +9,7 @@ mod frames;
 mod machine;
 mod schedules;
 mod simulation;
+mod step;
 mod toy;
 mod typing;
 
@@ -16,5 +17,8 @@ pub use frames::{FrameSimulation, starts_correspond, states_simulate, turns_agre
 pub use machine::{Growing, longer_run_keeps};
 pub use schedules::{ThreadFrames, ThreadSimulation, schedules_correspond, threads_correspond};
 pub use simulation::{Simulation, correspond, ends_alike, keeps_pace};
-pub use toy::{toy_never_stuck, woven_toy_corresponds, woven_toy_threads_correspond};
+pub use step::{Framed, frames_stay_within_limit, steps_only_add};
+pub use toy::{
+    toy_example_runs, toy_never_stuck, woven_toy_corresponds, woven_toy_threads_correspond,
+};
 pub use typing::{Typed, never_stuck};
