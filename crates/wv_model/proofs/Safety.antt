@@ -6,7 +6,7 @@ use Rattle.wv_model.specs.Frame.{Frame, struck}
 use Rattle.wv_model.specs.Control.{Control, Rules}
 use Rattle.wv_model.specs.Course.{Course, Goes, Calls, Gives, Leaves, Ends, Sticks, caught}
 use Rattle.wv_model.specs.Step.{Turn, State, pushed, given, thrown_from, settled, turn, step, machine, start}
-use Rattle.wv_model.specs.Typing.{FrameTyping, Keeps, CatchKeeps, TypingLaws, FramesStick, IsStuck, TypedBelow, none_typed, one_typed, TypedFrames, typed_running, typed_throwing, IsTyped}
+use Rattle.wv_model.specs.Typing.{FrameTyping, Keeps, CatchKeeps, TypingLaws, FramesStick, IsStuck, TypedBelow, none_typed, one_typed, TypedFrames, typed_running, typed_throwing, IsTyped, StateTyped}
 
 -- a frame that catches in its typing, or is left by the throw, keeps it
 pub caught_typed : {D : Domain} {P : Type 0} (T : FrameTyping D P) (o : Option (Frame D P)) (w : T.World) (method : D.Method) (thrown : D.Thrown) (shared : D.Shared) → T.Sound w shared → T.Thrown w thrown → CatchKeeps T w method o → Keeps T w method (caught o thrown shared)
@@ -68,23 +68,22 @@ module _ {D : Domain} {P : Type 0} (rules : Rules D) (control : Control D P) (T 
       let keeps = caught_typed T _ w method thrown shared sound throws (law.catches w method called thrown frame shared sound waits throws) in
       never_sticks _ w method keeps stuck
 
-  abbrev StateTyped : State D P → Type 0
-  StateTyped s = IsTyped T s.ending s.frames s.shared
-
-  advance_typed : (s : State D P) (o : Option D.Ending) → s.ending ≡ o → StateTyped s → StateTyped (unless_ended o s (step rules control s))
+  advance_typed : (s : State D P) (o : Option D.Ending) → s.ending ≡ o → StateTyped T s → StateTyped T (unless_ended o s (step rules control s))
   advance_typed s (Some e) ended typed = typed
   advance_typed s None going (inl typed) = turn_typed typed.world s.frames s.shared typed.sound typed.typed
   advance_typed s None going (inr (e, ended)) = absurd (cc (ended, going))
 
-  after_typed : (n : ℕ) (s : State D P) → StateTyped s → StateTyped (after (machine rules control) n s)
-  after_typed zero s typed = typed
-  after_typed (suc n) s typed = after_typed n (advance (machine rules control) s) (advance_typed s s.ending refl typed)
+  pub stays_typed : (n : ℕ) (s : State D P) → StateTyped T s → StateTyped T (after (machine rules control) n s)
+  stays_typed zero s typed = typed
+  stays_typed (suc n) s typed = stays_typed n (advance (machine rules control) s) (advance_typed s s.ending refl typed)
 
-  typed_goes : (s : State D P) → StateTyped s → IsStuck control s → ⊥
+  typed_goes : (s : State D P) → StateTyped T s → IsStuck control s → ⊥
   typed_goes s (inl typed) stuck = frames_go typed.world s.frames s.shared typed.sound typed.typed stuck.1
   typed_goes s (inr (e, ended)) stuck = let going = stuck.0 in absurd (cc (ended, going))
 
-  pub never_stuck : (w : T.World) (method : D.Method) (frame : Frame D P) (shared : D.Shared) → T.Sound w shared → T.Runs w method frame → (n : ℕ) → IsStuck control (after (machine rules control) n (start frame shared)) → ⊥
-  never_stuck w method frame shared sound runs n =
-      let begins : StateTyped (start frame shared) = inl (record { goes = refl; world = w; sound = sound; typed = typed_running runs none_typed }) in
-      typed_goes (after (machine rules control) n (start frame shared)) (after_typed n (start frame shared) begins)
+  pub starts_typed : (w : T.World) (method : D.Method) (frame : Frame D P) (shared : D.Shared) → T.Sound w shared → T.Runs w method frame → StateTyped T (start frame shared)
+  starts_typed w method frame shared sound runs =
+      inl (record { goes = refl; world = w; sound = sound; typed = typed_running runs none_typed })
+
+  pub never_stuck : (s : State D P) (n : ℕ) → StateTyped T s → IsStuck control (after (machine rules control) n s) → ⊥
+  never_stuck s n typed = typed_goes (after (machine rules control) n s) (stays_typed n s typed)

@@ -71,6 +71,10 @@ pub record GoesTyped {D : Domain} {P : Type 0} (T : FrameTyping D P) (ending : O
   pub sound : T.Sound world shared
   pub typed : TypedFrames T world frames
 
--- typed, or ended
+-- frames that go on typed, or have ended
 abbrev pub IsTyped : {D : Domain} {P : Type 0} (T : FrameTyping D P) → Option D.Ending → List (Frame D P) → D.Shared → Type 0
 IsTyped {D} {P} T ending frames shared = GoesTyped T ending frames shared ⊎ ((e : D.Ending) × (ending ≡ Some e))
+
+-- a state that has ended, or whose frames are typed in some world
+abbrev pub StateTyped : {D : Domain} {P : Type 0} (T : FrameTyping D P) → State D P → Type 0
+StateTyped T state = IsTyped T state.ending state.frames state.shared

@@ -21,4 +21,4 @@ pub use step::{Framed, frames_stay_within_limit, steps_only_add};
 pub use toy::{
     toy_example_runs, toy_never_stuck, woven_toy_corresponds, woven_toy_threads_correspond,
 };
-pub use typing::{Typed, never_stuck};
+pub use typing::{Typed, never_stuck, starts_typed, stays_typed};
