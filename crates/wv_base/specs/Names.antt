@@ -1,5 +1,5 @@
 -- The grammar of names in class files (JVM Specification 4.2).
-use Rattle.std.specs.Prelude.{ℕ, Bool, not, ◌&&◌, ◌||◌, ◌==◌, List, [], length, codes, bytes_eq, nat_lt}
+use Rattle.std.specs.Prelude.{ℕ, Bool, not, ◌&&◌, ◌||◌, ◌==◌, List, length, codes, bytes_eq, nat_lt}
 use Rattle.std.specs.List.{list_all, slice_split}
 use Rattle.wv_base.specs.declared.grammar.TheConstants.{DOT, SLASH, SEMICOLON, BRACKET, LESS, GREATER}
 
