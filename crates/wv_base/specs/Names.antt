@@ -15,6 +15,7 @@ is_unqualified name = nat_lt 0 (length name) && list_all is_name_unit name
 abbrev pub is_class_name : List ℕ → Bool
 is_class_name name = list_all is_unqualified (slice_split (λ unit. unit == SLASH) name)
 
+-- one of  < >
 abbrev pub is_angle : ℕ → Bool
 is_angle unit = unit == LESS || unit == GREATER
 

@@ -16,6 +16,7 @@ const CLOSE: u16 = b')' as u16;
 const CLASS: u16 = b'L' as u16;
 
 const VOID: [u16; 1] = [b'V' as u16];
+
 /// How many dimensions an array has at most (JVM Specification 4.3.2).
 const MAX_DIMENSIONS: usize = 255;
 
