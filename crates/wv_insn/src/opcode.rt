@@ -1,5 +1,5 @@
 //! Opcodes and the forms of their operands.
-ghost use Rattle.std.specs.Prelude.{◌≡◌};
+ghost use Rattle.std.specs.Prelude.{◌≡◌, ◌↔◌, Some, IsTrue};
 ghost use Rattle.wv_base.specs.Instructions.{form_of};
 
 use wv_base::Form;
@@ -48,4 +48,11 @@ pub(crate) fn form_of(op: u8) -> Option<Form>
         // jsr, ret, jsr_w and the reserved opcodes
         _ => return None,
     })
+}
+
+/// Whether the operands of an opcode have this form.
+pub(crate) fn has_form(op: u8, form: Form) -> bool
+    ensures { IsTrue result ↔ (form_of op ≡ Some form) }
+{
+    form_of(op) == Some(form)
 }

@@ -1,6 +1,8 @@
 //! Instructions, with pool numbers and byte offsets.
 
-use wv_base::Items;
+use crate::opcode::has_form;
+use crate::switch::targets;
+use wv_base::{Form, Items};
 
 /// The offsets to which a tableswitch leads, from its least key on.
 pub type Offsets = Items<i32>;
@@ -93,4 +95,44 @@ pub enum Raw {
         number: u16,
         dimensions: u8,
     },
+}
+
+impl Raw {
+    ghost use Rattle.std.specs.Prelude.{◌↔◌, IsTrue};
+    ghost use Rattle.wv_insn.specs.Spelling.{IsInstruction};
+
+    /// Whether bytes can spell this instruction: its opcode is one of its kind, its numbers fit
+    /// their places, a tableswitch has an offset for each key, and a lookupswitch fewer than 2^31
+    /// cases.
+    pub fn is_encodable(&self) -> bool
+        ensures { IsTrue result ↔ IsInstruction self.now }
+    {
+        match self {
+            Raw::Plain { op } => has_form(*op, Form::Plain),
+            Raw::Push { op, value } => {
+                has_form(*op, Form::Short)
+                    || has_form(*op, Form::Byte) && i8::try_from(*value).is_ok()
+            }
+            Raw::Load { op, number } => {
+                has_form(*op, Form::WideConstant) || has_form(*op, Form::Constant) && *number < 0x100
+            }
+            Raw::Local { op, slot, wide } => {
+                has_form(*op, Form::Local) && (*wide || *slot < 0x100)
+            }
+            Raw::Inc { slot, by, wide } => {
+                *wide || *slot < 0x100 && i8::try_from(*by).is_ok()
+            }
+            Raw::Branch { op, offset } => {
+                has_form(*op, Form::WideBranch)
+                    || has_form(*op, Form::Branch) && i16::try_from(*offset).is_ok()
+            }
+            Raw::Table {
+                low, high, offsets, ..
+            } => offsets.len() as u64 == targets(*low, *high),
+            Raw::Lookup { cases, .. } => cases.len() < 0x8000_0000,
+            Raw::Reference { op, .. } => has_form(*op, Form::Reference),
+            Raw::Class { op, .. } => has_form(*op, Form::Class),
+            _ => true,
+        }
+    }
 }

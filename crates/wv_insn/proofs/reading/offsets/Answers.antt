@@ -4,7 +4,7 @@ use Rattle.std.proofs.lemmas.Result.{err_from_is_err_and}
 use Rattle.std.specs.Int.{w32}
 use Rattle.wv_insn.specs.Reading.{signed_at, case_at, times}
 use Rattle.wv_insn.proofs.Times.{with_front, goes_on, ends, is_done}
-use Rattle.wv_insn.proofs.decode.offsets.Goals as goal
+use Rattle.wv_insn.proofs.reading.offsets.Goals as goal
 
 pub returns-in_err-offset : goal.returns-in_err-offset
 returns-in_err-offset c =

@@ -2,7 +2,7 @@ use Rattle.std.proofs.Common.{◌≡◌, ◌-◌}
 use Rattle.std.specs.Int.{w32}
 use Rattle.wv_insn.specs.Reading.{signed_at, case_at, times}
 use Rattle.wv_insn.proofs.Times.{with_front}
-use Rattle.wv_insn.proofs.decode.offsets.Given as goal
+use Rattle.wv_insn.proofs.reading.cases.Given as goal
 
 abbrev pub invariant-loop : goal.invariant-loop
-invariant-loop l = with_front l.offsets (times (signed_at w32) (l.count - l.counter) l.rest) ≡ times (signed_at w32) l.count l.bytes
+invariant-loop l = with_front l.cases (times case_at (l.count - l.counter) l.rest) ≡ times case_at l.count l.bytes

@@ -1,13 +1,16 @@
 //! Reading one instruction.
-ghost use Rattle.std.specs.Prelude.{◌≡◌};
+ghost use Rattle.std.specs.Prelude.{◌≡◌, ℕ, IfOk, IfErr};
 ghost use Rattle.std.specs.Int.{w32};
-ghost use Rattle.wv_insn.specs.Spelling.{targets, padding};
+ghost use Rattle.wv_insn.specs.Spelling.{targets};
+ghost use Rattle.wv_insn.specs.declared.raw.Raw.{Raw};
+ghost use Rattle.wv_insn.specs.Standing.{Stands, IsCause, IsUnlessMemory};
 ghost use Rattle.wv_insn.specs.Reading.{Gives, times, signed_at, case_at, opcode_at, push_byte_at, push_short_at, constant_at, wide_constant_at, local_at, increment_at, branch_at, wide_branch_at, table_at, lookup_at, reference_at, interface_at, dynamic_at, class_at, array_at, multi_array_at, wide_at, operands_at, instruction_at};
 
 use crate::fault::{InsnFault, Stop};
 use crate::number::{bytes_at, count_at, i16_at, i32_at, i8_at, u16_at, u8_at, zero_at};
 use crate::opcode::form_of;
 use crate::raw::{Offsets, Raw, RawCase, RawCases};
+use crate::switch::{padding, targets};
 use std::alloc::Global;
 use wv_base::{Form, Items};
 
@@ -173,25 +176,6 @@ fn wide(bytes: &[u8]) -> Result<(Raw, &[u8]), Stop>
     }
 }
 
-/// How many pad bytes a switch at this offset has.
-fn padding(at: usize) -> usize
-    ensures { result ≡ padding at }
-{
-    3 - at % 4
-}
-
-/// How many keys there are from `low` to `high`.
-#[tactic(auto, unfolding(crate::specs::Spelling::targets))]
-fn targets(low: i32, high: i32) -> u64
-    ensures { result ≡ targets low high }
-{
-    if low <= high {
-        u64::from(high.abs_diff(low)) + 1
-    } else {
-        0
-    }
-}
-
 fn offsets(alloc: Global, count: u64, bytes: &[u8]) -> Result<(Offsets, &[u8]), Stop>
     ensures { Gives (λ x. (x.0, x.1.now)) result (times (signed_at w32) count bytes.now) }
 {
@@ -295,4 +279,27 @@ fn instruction(alloc: Global, at: usize, bytes: &[u8]) -> Result<(Raw, &[u8]), S
 {
     let ((op, form), rest) = opcode_at(bytes)?;
     operands(alloc, at, op, form, rest)
+}
+
+/// The instruction that stands at the offset `at` of a method's code, and its length in bytes (JVM
+/// Specification chapter 6, without jsr, jsr_w, ret and the reserved opcodes). Code may follow it;
+/// the padding of a switch is counted from the code's start.
+pub fn decode(alloc: Global, code: &[u8], at: usize) -> Result<(Raw, usize), InsnFault>
+    ensures found { IfOk result (λ x. Stands code.now at x.0 x.1) }
+    // What stands there is found, unless memory runs out.
+    ensures only { (r : Raw) (len : ℕ) → Stands code.now at r len → IsUnlessMemory result (r, len) }
+    // Else the fault is the first one.
+    ensures fault { IfErr result (IsCause code.now at) }
+{
+    if code.len() < at {
+        return Err(InsnFault::Fault { at });
+    }
+    let bytes = &code[at..];
+    match instruction(alloc, at, bytes) {
+        Ok((raw, rest)) => Ok((raw, bytes.len() - rest.len())),
+        Err(Stop::At(left)) => Err(InsnFault::Fault {
+            at: code.len() - left,
+        }),
+        Err(Stop::Memory) => Err(InsnFault::Memory),
+    }
 }
