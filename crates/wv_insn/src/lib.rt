@@ -13,3 +13,6 @@ pub use fault::InsnFault;
 pub use raw::{Offsets, Raw, RawCase, RawCases};
 pub use reading::decode;
 pub use writing::encode;
+
+#[cfg(test)]
+mod tests;

@@ -193,6 +193,7 @@ fn lookup(out: &mut Bytes, at: usize, other: i32, cases: &[RawCase]) -> Result<(
 /// Appends the bytes of the instruction, as it is spelled where its opcode stands at the offset
 /// `at` of the code: a switch is padded with zeros from there. After want of memory `out` may end
 /// with a part of them.
+#[tactic(auto, using(crate::proofs::Padding::is_plain))]
 pub fn encode(raw: &Raw, at: usize, out: &mut Bytes) -> Result<(), Memory>
     // What it calls for can be asked with `is_encodable`.
     requires { IsInstruction raw.now }
