@@ -1,2 +1,4 @@
 pub mod Times
 pub mod Padding
+pub mod Readers
+pub mod Numbers
