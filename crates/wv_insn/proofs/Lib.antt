@@ -2,3 +2,4 @@ pub mod Times
 pub mod Padding
 pub mod Readers
 pub mod Numbers
+pub mod Operands

@@ -188,11 +188,11 @@ Signed w z text = FitsSigned w z × (text ≡ signed w z)
 -- a signed number is an unsigned one, seen in two's complement
 pub signed_number : (w : Width) → IsWide w (2 ^ bits w) → Reads (signed_at w) (Signed w)
 signed_number w wide =
-    renamed (signed_at w) (Seen (cast_signed w) (Unsigned w (2 ^ bits w))) (Signed w)
+    renamed (Seen (cast_signed w) (Unsigned w (2 ^ bits w))) (Signed w)
       (λ z text t. let fits : Fits w t.0 = record { fits = t.2.0 } in
         subst (λ (y : ℤ). Signed w y text) (sym t.1) (sfits_to_z fits, t.2.1 ∙ ap (to_be_bytes w) (sym (of_z-to_z w t.0 t.2.0))))
       (λ z text t. (cast_unsigned w z, sym (to_z-of_z w z t.0), (below w z t.0, t.1)))
-      (seen (cast_signed w) (unsigned_at w) (Unsigned w (2 ^ bits w)) (unsigned_number w (2 ^ bits w) wide))
+      (seen (cast_signed w) (unsigned_number w (2 ^ bits w) wide))
   where
     below : (w : Width) (z : ℤ) → FitsSigned w z → cast_unsigned w z < 2 ^ bits w
     below w z fits = (Fits-of_z {w = w} {z = z} fits).fits
@@ -249,17 +249,17 @@ Listed Fits spell n values text = (length values ≡ n) × AllByRecursion Fits v
 pub listed : {A : Type 0} (Fits : A → Type 0) (spell : A → List ℕ) (read : List ℕ → Result (A × List ℕ) ℕ) → Reads read (λ value text. Fits value × (text ≡ spell value)) → (n : ℕ) → Reads (times read n) (Listed Fits spell n)
 unfolding times
 listed {A} Fits spell read r zero =
-    renamed (times read zero) (λ values text. (values ≡ []) × (text ≡ [])) (Listed Fits spell zero)
+    renamed (λ values text. (values ≡ []) × (text ≡ [])) (Listed Fits spell zero)
       (λ values text t. subst (λ (v : List A). Listed Fits spell zero v text) (sym t.0) (refl, tt, t.1))
       (λ values text t. let none : values ≡ [] = nil_from_length values t.0 in (none, t.2 ∙ ap (flat_map spell) none))
       (done [])
 listed {A} Fits spell read r (suc n) =
-    renamed (times read (suc n)) (Then One (λ first. Seen (λ others. first ∷ others) (Listed Fits spell n))) (Listed Fits spell (suc n))
+    renamed (Then One (λ first. Seen (λ others. first ∷ others) (Listed Fits spell n))) (Listed Fits spell (suc n))
       (λ values text t. subst (λ (v : List A). Listed Fits spell (suc n) v text) (sym t.second_is.1)
         (ap suc t.second_is.2.0, (t.first_is.0, t.second_is.2.1), t.parts ∙ rw (t.first_is.1, t.second_is.2.2, flat_map-cons) refl))
       back
-      (then read One (λ first bytes. times read n bytes >>= λ others. Ok (first ∷ others.0, others.1)) (λ first. Seen (λ others. first ∷ others) (Listed Fits spell n)) r
-        (λ first. seen (λ others. first ∷ others) (times read n) (Listed Fits spell n) (listed Fits spell read r n)))
+      (then {T = λ first. Seen (λ others. first ∷ others) (Listed Fits spell n)} (λ first bytes. times read n bytes >>= λ others. Ok (first ∷ others.0, others.1)) r
+        (λ first. seen (λ others. first ∷ others) (listed Fits spell read r n)))
   where
     One : A → List ℕ → Type 0
     One value text = Fits value × (text ≡ spell value)

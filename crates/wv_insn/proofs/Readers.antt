@@ -1,6 +1,6 @@
 -- What a reader keeps: what it reads is spelled so, what is spelled so is read again, and where it stops,
 -- the bytes before begin what it reads. A reader after another keeps it too.
-use Rattle.std.proofs.Common.{◌≡◌, ℕ, zero, suc, ◌+◌, ◌<◌, ◌≤◌, List, [], ◌∷◌, ◌++◌, length, get_or, Result, Ok, Err, refl, sym, ap, subst, ◌∙◌, append_assoc, arith, ◌⊎◌, inl, inr}
+use Rattle.std.proofs.Common.{◌≡◌, ℕ, zero, suc, ◌+◌, ◌<◌, ◌≤◌, List, [], ◌∷◌, ◌++◌, length, get_or, Result, Ok, Err, refl, sym, ap, subst, ◌∙◌, append_assoc, arith, ◌⊎◌, inl, inr, ◌^◌, Option, Some, None}
 use Rattle.std.proofs.lemmas.List.{append-nil, get_or-append-add}
 use Rattle.wv_insn.specs.Reading.{◌>>=◌}
 
@@ -42,8 +42,8 @@ pub record Reads {A : Type 0} (read : List ℕ → Result (A × List ℕ) ℕ) (
   pub some : (value : A) × (text : List ℕ) × S value text
 
 -- the same by other words
-pub renamed : {A : Type 0} (read : List ℕ → Result (A × List ℕ) ℕ) (S T : A → List ℕ → Type 0) → ((value : A) (text : List ℕ) → S value text → T value text) → ((value : A) (text : List ℕ) → T value text → S value text) → Reads read S → Reads read T
-renamed read S T there back r = record {
+pub renamed : {A : Type 0} {read : List ℕ → Result (A × List ℕ) ℕ} (S T : A → List ℕ → Type 0) → ((value : A) (text : List ℕ) → S value text → T value text) → ((value : A) (text : List ℕ) → T value text → S value text) → Reads read S → Reads read T
+renamed {A} {read} S T there back r = record {
   takes = λ bytes x fits e. let t = r.takes bytes x fits e in (t.0, t.1, there x.0 t.0 t.2);
   again = λ value text rest s. r.again value text rest (back value text s);
   stops = λ bytes left fits e. elim (r.stops bytes left fits e) [
@@ -81,9 +81,9 @@ bind_err : {A B : Type 0} (r : Result A ℕ) (f : A → Result B ℕ) (left : �
 bind_err (Ok x) f left e = inr (x, refl, e)
 bind_err (Err d) f left e = inl cc
 
-pub then : {A B : Type 0} (read : List ℕ → Result (A × List ℕ) ℕ) (S : A → List ℕ → Type 0) (next : A → List ℕ → Result (B × List ℕ) ℕ) (T : A → B → List ℕ → Type 0) → Reads read S → ((value : A) → Reads (next value) (T value))
+pub then : {A B : Type 0} {read : List ℕ → Result (A × List ℕ) ℕ} {S : A → List ℕ → Type 0} {T : A → B → List ℕ → Type 0} (next : A → List ℕ → Result (B × List ℕ) ℕ) → Reads read S → ((value : A) → Reads (next value) (T value))
     → Reads (λ bytes. read bytes >>= λ x. next x.0 x.1) (Then S T)
-then {A} {B} read S next T r n = record {
+then {A} {B} {read} {S} {T} next r n = record {
   takes = λ bytes y fits e.
     let b = bind_ok (read bytes) (λ x. next x.0 x.1) y e in
     let t = r.takes bytes b.0 fits b.1 in
@@ -121,9 +121,67 @@ then {A} {B} read S next T r n = record {
 abbrev pub Seen : {A B : Type 0} → (A → B) → (A → List ℕ → Type 0) → B → List ℕ → Type 0
 Seen {A} f S other text = (value : A) × (other ≡ f value) × S value text
 
-pub seen : {A B : Type 0} (f : A → B) (read : List ℕ → Result (A × List ℕ) ℕ) (S : A → List ℕ → Type 0) → Reads read S → Reads (λ bytes. read bytes >>= λ x. Ok (f x.0, x.1)) (Seen f S)
-seen {A} {B} f read S r =
-    renamed (λ bytes. read bytes >>= λ x. Ok (f x.0, x.1)) (Then S (λ value other text. (other ≡ f value) × (text ≡ []))) (Seen f S)
+pub seen : {A B : Type 0} {read : List ℕ → Result (A × List ℕ) ℕ} {S : A → List ℕ → Type 0} (f : A → B) → Reads read S → Reads (λ bytes. read bytes >>= λ x. Ok (f x.0, x.1)) (Seen f S)
+seen {A} {B} {read} {S} f r =
+    renamed (Then S (λ value other text. (other ≡ f value) × (text ≡ []))) (Seen f S)
       (λ other text t. (t.first, t.second_is.0, subst (S t.first) (sym (t.parts ∙ ap (λ (z : List ℕ). t.front ++ z) t.second_is.1 ∙ append-nil t.front)) t.first_is))
       (λ other text t. record { first = t.0; front = text; back = []; parts = sym (append-nil text); first_is = t.2; second_is = (t.1, refl) })
-      (then read S (λ value bytes. Ok (f value, bytes)) (λ value other text. (other ≡ f value) × (text ≡ [])) r (λ value. done (f value)))
+      (then {T = λ value other text. (other ≡ f value) × (text ≡ [])} (λ value bytes. Ok (f value, bytes)) r (λ value. done (f value)))
+
+-- a reader that answers alike
+pub alike : {A : Type 0} (read other : List ℕ → Result (A × List ℕ) ℕ) (S : A → List ℕ → Type 0) → ((bytes : List ℕ) → other bytes ≡ read bytes) → Reads read S → Reads other S
+alike read other S same r = record {
+  takes = λ bytes x fits e. r.takes bytes x fits (sym (same bytes) ∙ e);
+  again = λ value text rest s. same (text ++ rest) ∙ r.again value text rest s;
+  stops = λ bytes left fits e. elim (r.stops bytes left fits (sym (same bytes) ∙ e)) [
+    | inl d ↦ inl d
+    | inr d ↦ inr (record { front = d.front; byte = d.byte; rest = d.rest; parts = d.parts; place = d.place; more = d.more; value = d.value; whole = d.whole; stays = λ others. same (d.front ++ d.byte ∷ others) ∙ d.stays others })
+  ];
+  some = r.some;
+}
+
+-- a byte that means something, or nothing
+abbrev pub found_at : {A : Type 0} → Option A → ℕ → List ℕ → Result (A × List ℕ) ℕ
+found_at None left rest = Err left
+found_at (Some value) left rest = Ok (value, rest)
+
+abbrev pub meant_at : {A : Type 0} → (ℕ → Option A) → List ℕ → Result (A × List ℕ) ℕ
+meant_at meaning [] = Err 0
+meant_at meaning (byte ∷ rest) = found_at (meaning byte) (suc (length rest)) rest
+
+pub record Meant {A : Type 0} (meaning : ℕ → Option A) (value : A) (text : List ℕ) : Type 0 where
+  pub byte : ℕ
+  pub small : byte < 2 ^ 8
+  pub means : meaning byte ≡ Some value
+  pub alone : text ≡ byte ∷ []
+
+-- what an option is
+pub option_is : {A : Type 0} (o : Option A) → (o ≡ None) ⊎ ((x : A) × (o ≡ Some x))
+option_is None = inl refl
+option_is (Some x) = inr (x, refl)
+
+pub meant : {A : Type 0} (meaning : ℕ → Option A) (byte : ℕ) (value : A) → byte < 2 ^ 8 → meaning byte ≡ Some value → Reads (meant_at meaning) (Meant meaning)
+meant {A} meaning byte value lt e = record { takes = takes; again = again; stops = stops; some = (value, byte ∷ [], example) }
+  where
+    example : Meant meaning value (byte ∷ [])
+    example = record { byte = byte; small = lt; means = e; alone = refl }
+    takes : (bytes : List ℕ) (x : A × List ℕ) → IsBytes bytes → meant_at meaning bytes ≡ Ok x → (text : List ℕ) × (bytes ≡ text ++ x.1) × Meant meaning x.0 text
+    takes [] x fits read = absurd cc
+    takes (b ∷ rest) x fits read =
+        elim (option_is (meaning b)) [
+          | inl none ↦ absurd (let failed : Path (Result (A × List ℕ) ℕ) (Err (suc (length rest))) (Ok x) = rw none at read in cc)
+          | inr some ↦
+            let is : Path (Result (A × List ℕ) ℕ) (Ok (some.0, rest)) (Ok x) = rw some.1 at read in
+            subst (λ (y : A × List ℕ). (text : List ℕ) × (b ∷ rest ≡ text ++ y.1) × Meant meaning y.0 text) (ok_is (some.0, rest) x is) (b ∷ [], refl, record { byte = b; small = fits 0; means = some.1; alone = refl })
+        ]
+    again : (v : A) (text rest : List ℕ) → Meant meaning v text → meant_at meaning (text ++ rest) ≡ Ok (v, rest)
+    again v text rest s = ap (λ (t : List ℕ). meant_at meaning (t ++ rest)) s.alone ∙ rw s.means refl
+    stops : (bytes : List ℕ) (left : ℕ) → IsBytes bytes → meant_at meaning bytes ≡ Err left → Ended (Meant meaning) bytes left ⊎ Broken (meant_at meaning) (Meant meaning) bytes left
+    stops [] left fits read = inl (record { nothing = cc; more = byte ∷ []; value = value; whole = example })
+    stops (b ∷ rest) left fits read =
+        elim (option_is (meaning b)) [
+          | inl none ↦
+            let failed : Path (Result (A × List ℕ) ℕ) (Err (suc (length rest))) (Err left) = rw none at read in
+            inr (record { front = []; byte = b; rest = rest; parts = refl; place = cc; more = byte ∷ []; value = value; whole = example; stays = λ others. rw none refl })
+          | inr some ↦ absurd (let is : Path (Result (A × List ℕ) ℕ) (Ok (some.0, rest)) (Err left) = rw some.1 at read in cc)
+        ]
