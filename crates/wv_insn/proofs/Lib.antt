@@ -3,3 +3,5 @@ pub mod Padding
 pub mod Readers
 pub mod Numbers
 pub mod Operands
+pub mod Forms
+pub mod Rows
