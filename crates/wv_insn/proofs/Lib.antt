@@ -5,3 +5,4 @@ pub mod Numbers
 pub mod Operands
 pub mod Forms
 pub mod Rows
+pub mod Faults
