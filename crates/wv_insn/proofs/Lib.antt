@@ -6,3 +6,4 @@ pub mod Operands
 pub mod Forms
 pub mod Rows
 pub mod Faults
+pub mod Directions

@@ -1,9 +1,10 @@
 -- Instructions in a method's code, and where none stands.
-use Rattle.std.specs.Prelude.{◌≡◌, ℕ, ◌+◌, ◌-◌, ◌<◌, ◌≤◌, max, List, ◌++◌, length, take, drop, Result, Ok, Err}
+use Rattle.std.specs.Prelude.{◌≡◌, ℕ, ◌+◌, ◌-◌, ◌<◌, ◌≤◌, max, List, ◌++◌, length, take, drop, slice_index, ◌⊎◌, Result, Ok, Err}
+use Rattle.wv_base.specs.Opcodes.{tableswitch, lookupswitch}
 use Rattle.wv_insn.specs.declared.fault.InsnFault.{InsnFault}
 use Rattle.wv_insn.specs.declared.fault.InsnFault.TheVariants as fault
 use Rattle.wv_insn.specs.declared.raw.Raw.{Raw}
-use Rattle.wv_insn.specs.Spelling.{Spells}
+use Rattle.wv_insn.specs.Spelling.{padding, Spells}
 
 -- the instruction stands in the code at this offset, and has this length
 pub record Stands (code : List ℕ) (at : ℕ) (r : Raw) (len : ℕ) : Type 0 where
@@ -32,3 +33,12 @@ IsCause code at fault.Memory = Unit {0}
 abbrev pub IsUnlessMemory : {X : Type 0} → Result X InsnFault → X → Type 0
 IsUnlessMemory (Ok y) x = y ≡ x
 IsUnlessMemory (Err e) x = e ≡ fault.Memory
+
+-- the byte k of an instruction at this offset is a pad byte of a switch
+abbrev pub IsPad : ℕ → List ℕ → ℕ → Type 0
+IsPad at bytes k = ((slice_index bytes 0 ≡ tableswitch) ⊎ (slice_index bytes 0 ≡ lookupswitch)) × (0 < k) × (k ≤ padding at)
+
+-- the bytes of an instruction at this offset, but for the pad bytes of a switch
+pub record IsSameButPadding (at : ℕ) (old new : List ℕ) : Type 0 where
+  pub lengths : length old ≡ length new
+  pub others : (k : ℕ) → (IsPad at old k → ⊥) → slice_index old k ≡ slice_index new k

@@ -2,6 +2,7 @@
 #![tactic(auto)]
 
 mod fault;
+mod laws;
 mod number;
 mod opcode;
 mod raw;
@@ -10,6 +11,9 @@ mod switch;
 mod writing;
 
 pub use fault::InsnFault;
+pub use laws::{
+    decode_after_encode, encode_after_decode, one_instruction, what_a_first_fault_is, what_is_encodable,
+};
 pub use raw::{Offsets, Raw, RawCase, RawCases};
 pub use reading::decode;
 pub use writing::encode;
