@@ -1,10 +1,10 @@
 -- The laws of both directions and of faults.
-use Rattle.std.proofs.Common.{◌≡◌, ℕ, zero, suc, ◌+◌, ◌-◌, ◌<◌, ◌≤◌, List, [], ◌∷◌, ◌++◌, length, take, drop, get_or, Bool, true, false, Result, Ok, Err, refl, sym, ap, subst, ◌∙◌, arith, append_assoc, ◌⊎◌, inl, inr}
+use Rattle.std.proofs.Common.{◌≡◌, ℕ, zero, suc, ◌+◌, ◌-◌, ◌<◌, ◌≤◌, List, ◌∷◌, ◌++◌, length, take, drop, get_or, true, false, refl, sym, ap, subst, ◌∙◌, arith, append_assoc, ◌⊎◌, inl, inr}
 use Rattle.std.specs.Prelude.{◌↔◌, replicate}
 use Rattle.std.specs.List.{flat_map}
 use Rattle.std.specs.Int.{w32}
 use Rattle.std.proofs.lemmas.Bool.{cases_lt}
-use Rattle.std.proofs.lemmas.List.{append-nil, take-append-drop, take-take, length-append, length-replicate, take_at, drop_at, get_or-append_right}
+use Rattle.std.proofs.lemmas.List.{take-append-drop, take-take, length-append, length-replicate, take_at, drop_at, get_or-append_right}
 use Rattle.wv_base.specs.Opcodes.{tableswitch, lookupswitch}
 use Rattle.wv_insn.specs.declared.raw.Raw.{Raw}
 use Rattle.wv_insn.specs.declared.raw.Raw.TheVariants as raw
@@ -12,7 +12,7 @@ use Rattle.wv_insn.specs.Spelling.{padding, unsigned, signed, case, spelling, pl
 use Rattle.wv_insn.specs.Reading.{instruction_at}
 use Rattle.wv_insn.specs.Standing.{Stands, Begins, IsFirstFault, IsPad, IsSameButPadding}
 use Rattle.wv_insn.proofs.Padding.{is_plain}
-use Rattle.wv_insn.proofs.Readers.{ok_is, Reads}
+use Rattle.wv_insn.proofs.Readers.{ok_is}
 use Rattle.wv_insn.proofs.Rows.{reads}
 
 -- what is encoded stands where it was put
@@ -72,6 +72,7 @@ same_but_padding at r bytes s = subst (λ (b : List ℕ). IsSameButPadding at b 
   where
     none : List ℕ
     none = replicate (padding at) 0
+
     by_pad : (q : Raw) (pad : List ℕ) → length pad ≡ padding at → IsSameButPadding at (spelling pad q) (plain_spelling at q)
     by_pad (raw.Table low high other offsets) pad len =
         let back : List ℕ = signed w32 other ++ signed w32 low ++ signed w32 high ++ flat_map (signed w32) offsets in

@@ -1,11 +1,11 @@
 -- Where an instruction stands, and where the first fault is.
-use Rattle.std.proofs.Common.{◌≡◌, ℕ, suc, ◌+◌, ◌-◌, ◌<◌, ◌≤◌, max, List, [], ◌∷◌, ◌++◌, length, take, drop, Result, Ok, Err, refl, sym, ap, subst, ◌∙◌, arith, append_assoc, ◌⊎◌, inl, inr}
+use Rattle.std.proofs.Common.{◌≡◌, ℕ, suc, ◌+◌, ◌-◌, ◌<◌, ◌≤◌, List, [], ◌∷◌, ◌++◌, length, take, drop, Result, Ok, Err, refl, sym, ap, subst, ◌∙◌, arith, append_assoc, inl, inr}
 use Rattle.std.proofs.lemmas.List.{append-nil, take-append-drop, length-append, length-take, length-drop, take_at, take_rest, nil_from_length}
 use Rattle.wv_insn.specs.declared.raw.Raw.{Raw}
 use Rattle.wv_insn.specs.Spelling.{Spells}
 use Rattle.wv_insn.specs.Reading.{instruction_at}
-use Rattle.wv_insn.specs.Standing.{Stands, Begins, IsFirstFault}
-use Rattle.wv_insn.proofs.Readers.{IsBytes, ok_is, Reads, Ended, Broken}
+use Rattle.wv_insn.specs.Standing.{Stands, IsFirstFault}
+use Rattle.wv_insn.proofs.Readers.{IsBytes, ok_is}
 use Rattle.wv_insn.proofs.Rows.{reads}
 
 -- what stands at an offset is read there
@@ -57,28 +57,32 @@ past_end code at lt =
 pub first_fault : (code : List ℕ) (at left : ℕ) → at ≤ length code → IsBytes (drop at code) → instruction_at at (drop at code) ≡ Err left → (left ≤ length code) × IsFirstFault code at (length code - left)
 first_fault code at left le fits e = elim ((reads at).stops (drop at code) left fits e) [
   | inl d ↦
-    let nothing : left ≡ 0 = d.nothing in
-    let whole : take (length code - left - at) (drop at code) ≡ drop at code = ap (λ (n : ℕ). take (length code - n - at) (drop at code)) nothing ∙ ap (λ (n : ℕ). take n (drop at code)) (omega arith) ∙ take_rest code at in
-    (omega arith, record {
-      none = λ r len s. none_stands code at left r len e s;
-      from = omega arith;
-      to = omega arith;
-      begun = (d.more, d.value, subst (λ (t : List ℕ). Spells at d.value (t ++ d.more)) (sym whole) d.whole);
-      broken = λ within. absurd (omega arith);
-    })
+      let nothing : left ≡ 0 = d.nothing in
+      let whole : take (length code - left - at) (drop at code) ≡ drop at code = ap (λ (n : ℕ). take (length code - n - at) (drop at code)) nothing ∙ ap (λ (n : ℕ). take n (drop at code)) (omega arith) ∙ take_rest code at in (
+        omega arith,
+        record {
+          none = λ r len s. none_stands code at left r len e s;
+          from = omega arith;
+          to = omega arith;
+          begun = (d.more, d.value, subst (λ (t : List ℕ). Spells at d.value (t ++ d.more)) (sym whole) d.whole);
+          broken = λ within. absurd (omega arith);
+        },
+      )
   | inr d ↦
-    let lengths : length (drop at code) ≡ length d.front + suc (length d.rest) = ap length d.parts ∙ length-append d.front (d.byte ∷ d.rest) in
-    let place : left ≡ suc (length d.rest) = d.place in
-    let total : length code ≡ at + length d.front + left = omega (arith, length-drop at code) in
-    let front : take (length code - left - at) (drop at code) ≡ d.front = front_is (drop at code) d.front (d.byte ∷ d.rest) _ d.parts (omega arith) in
-    let longer : take (length code - left + 1 - at) (drop at code) ≡ d.front ++ d.byte ∷ [] = front_is (drop at code) (d.front ++ d.byte ∷ []) d.rest _ (d.parts ∙ sym (append_assoc d.front (d.byte ∷ []) d.rest)) (omega (arith, length-append d.front (d.byte ∷ []))) in
-    (omega arith, record {
-      none = λ r len s. none_stands code at left r len e s;
-      from = omega arith;
-      to = omega arith;
-      begun = (d.more, d.value, subst (λ (t : List ℕ). Spells at d.value (t ++ d.more)) (sym front) d.whole);
-      broken = λ within b. goes_on d.front d.byte b.0 b.1 d.stays (subst (λ (t : List ℕ). Spells at b.1 (t ++ b.0)) longer b.2);
-    })
+      let lengths : length (drop at code) ≡ length d.front + suc (length d.rest) = ap length d.parts ∙ length-append d.front (d.byte ∷ d.rest) in
+      let place : left ≡ suc (length d.rest) = d.place in
+      let total : length code ≡ at + length d.front + left = omega (arith, length-drop at code) in
+      let front : take (length code - left - at) (drop at code) ≡ d.front = front_is (drop at code) d.front (d.byte ∷ d.rest) _ d.parts (omega arith) in
+      let longer : take (length code - left + 1 - at) (drop at code) ≡ d.front ++ d.byte ∷ [] = front_is (drop at code) (d.front ++ d.byte ∷ []) d.rest _ (d.parts ∙ sym (append_assoc d.front (d.byte ∷ []) d.rest)) (omega (arith, length-append d.front (d.byte ∷ []))) in (
+        omega arith,
+        record {
+          none = λ r len s. none_stands code at left r len e s;
+          from = omega arith;
+          to = omega arith;
+          begun = (d.more, d.value, subst (λ (t : List ℕ). Spells at d.value (t ++ d.more)) (sym front) d.whole);
+          broken = λ within b. goes_on d.front d.byte b.0 b.1 d.stays (subst (λ (t : List ℕ). Spells at b.1 (t ++ b.0)) longer b.2);
+        },
+      )
 ]
   where
     goes_on : (front : List ℕ) (byte : ℕ) (more : List ℕ) (r : Raw) → ((others : List ℕ) → instruction_at at (front ++ byte ∷ others) ≡ Err (suc (length others))) → Spells at r ((front ++ byte ∷ []) ++ more) → ⊥

@@ -1,11 +1,11 @@
 -- The readers of bytes and numbers.
-use Rattle.std.proofs.Common.{◌≡◌, ℕ, zero, suc, ◌+◌, ◌-◌, ◌/◌, ◌%◌, ◌^◌, ◌<◌, ◌≤◌, Bool, true, false, cond, ltb, leb, List, [], ◌∷◌, ◌++◌, length, get_or, take, drop, ℤ, Fits, SFits, Result, Ok, Err, refl, sym, ap, subst, ◌∙◌, append_assoc, arith, ◌⊎◌, inl, inr}
+use Rattle.std.proofs.Common.{◌≡◌, ℕ, zero, suc, ◌-◌, ◌/◌, ◌%◌, ◌^◌, ◌<◌, ◌≤◌, Bool, true, false, cond, ltb, leb, List, [], ◌∷◌, ◌++◌, length, get_or, take, drop, ℤ, Fits, Result, Ok, Err, refl, sym, ap, subst, ◌∙◌, arith, ◌⊎◌, inl, inr}
 use Rattle.std.specs.Prelude.{FitsSigned, replicate}
 use Rattle.std.specs.List.{flat_map, AllByRecursion}
 use Rattle.std.specs.Int.{Width, w8, w16, w32, byte_len, from_be_bytes, to_be_bytes, cast_signed, cast_unsigned}
 use Rattle.std.proofs.lemmas.Bool.{cases_lt, ltb-false, ltb-true, le-ltb, leb-false, lt-leb}
-use Rattle.std.proofs.lemmas.Int.{to_z-of_z, of_z-to_z, ints}
-use Rattle.std.proofs.lemmas.List.{take_at, drop_at, take-append-drop, length-append, length-take, length-replicate, get_or-drop, get_or-take, get_or_past, append-nil, nil_from_length, get_or_append_left, get_or-append-add}
+use Rattle.std.proofs.lemmas.Int.{to_z-of_z, of_z-to_z}
+use Rattle.std.proofs.lemmas.List.{take_at, drop_at, take-append-drop, length-append, length-take, length-replicate, get_or-take, get_or_past, append-nil, nil_from_length}
 use Rattle.std.proofs.lemmas.List.Concat.{flat_map-cons}
 use mir.Val.{bits}
 use Rattle.std.proofs.Math.Facts.{sfits_to_z, Fits-of_z}
@@ -62,8 +62,10 @@ byte = record { takes = takes; again = again; stops = stops; some = (0, 0 ∷ []
     takes : (bytes : List ℕ) (x : ℕ × List ℕ) → IsBytes bytes → byte_at bytes ≡ Ok x → (text : List ℕ) × (bytes ≡ text ++ x.1) × Byte x.0 text
     takes [] x fits e = absurd cc
     takes (b ∷ rest) x fits e = subst (λ (y : ℕ × List ℕ). (text : List ℕ) × (b ∷ rest ≡ text ++ y.1) × Byte y.0 text) (ok_is (b, rest) x e) (b ∷ [], refl, (fits 0, refl))
+
     again : (value : ℕ) (text rest : List ℕ) → Byte value text → byte_at (text ++ rest) ≡ Ok (value, rest)
     again value text rest s = rw s.1 refl
+
     stops : (bytes : List ℕ) (left : ℕ) → IsBytes bytes → byte_at bytes ≡ Err left → Ended Byte bytes left ⊎ Broken byte_at Byte bytes left
     stops [] left fits e = inl (record { nothing = cc; more = 0 ∷ []; value = 0; whole = (omega arith, refl) })
     stops (b ∷ rest) left fits e = absurd cc
@@ -78,8 +80,10 @@ zero_byte = record { takes = takes; again = again; stops = stops; some = (0, 0 �
     takes [] x fits e = absurd cc
     takes (zero ∷ rest) x fits e = subst (λ (y : ℕ × List ℕ). (text : List ℕ) × (0 ∷ rest ≡ text ++ y.1) × Zero y.0 text) (ok_is (0, rest) x e) (0 ∷ [], refl, (refl, refl))
     takes (suc b ∷ rest) x fits e = absurd cc
+
     again : (value : ℕ) (text rest : List ℕ) → Zero value text → zero_at (text ++ rest) ≡ Ok (value, rest)
     again value text rest s = rw (s.0, s.1) refl
+
     stops : (bytes : List ℕ) (left : ℕ) → IsBytes bytes → zero_at bytes ≡ Err left → Ended Zero bytes left ⊎ Broken zero_at Zero bytes left
     stops [] left fits e = inl (record { nothing = cc; more = 0 ∷ []; value = 0; whole = (refl, refl) })
     stops (zero ∷ rest) left fits e = absurd cc
@@ -100,11 +104,13 @@ some_bytes count = record { takes = takes; again = again; stops = stops; some = 
         let g = chosen_ok (ltb (length bytes) count) 0 (take count bytes, drop count bytes) x e in
         let long : count ≤ length bytes = ltb-false _ _ g.0 in
         subst (λ (y : List ℕ × List ℕ). (text : List ℕ) × (bytes ≡ text ++ y.1) × Bytes count y.0 text) g.1
-          (take count bytes, sym (take-append-drop count bytes), (omega (arith, length-take count bytes), all_bytes (take count bytes) (IsBytes-take count bytes fits), refl))
+        (take count bytes, sym (take-append-drop count bytes), (omega (arith, length-take count bytes), all_bytes (take count bytes) (IsBytes-take count bytes fits), refl))
+
     again : (value text rest : List ℕ) → Bytes count value text → bytes_at count (text ++ rest) ≡ Ok (value, rest)
     again value text rest s =
         let long : ltb (length (value ++ rest)) count ≡ false = le-ltb _ _ (omega (arith, length-append value rest, s.0)) in
         rw (s.2, long, take_at value rest count s.0, drop_at value rest count s.0) refl
+
     stops : (bytes : List ℕ) (left : ℕ) → IsBytes bytes → bytes_at count bytes ≡ Err left → Ended (Bytes count) bytes left ⊎ Broken (bytes_at count) (Bytes count) bytes left
     stops bytes left fits e =
         let g = chosen_err (ltb (length bytes) count) 0 left (take count bytes, drop count bytes) e in
@@ -175,7 +181,8 @@ unsigned_number w limit wide = record { takes = takes; again = again; stops = λ
         let long : byte_len w ≤ length bytes = ltb-false _ _ g.0 in
         let front_fits : IsBytes front = IsBytes-take (byte_len w) bytes fits in
         subst (λ (y : ℕ × List ℕ). (text : List ℕ) × (bytes ≡ text ++ y.1) × Unsigned w limit y.0 text) g.1
-          (front, sym (take-append-drop (byte_len w) bytes), (wide.below front front_fits, sym (wide.back front (omega (arith, length-take (byte_len w) bytes)) front_fits)))
+        (front, sym (take-append-drop (byte_len w) bytes), (wide.below front front_fits, sym (wide.back front (omega (arith, length-take (byte_len w) bytes)) front_fits)))
+
     again : (value : ℕ) (text rest : List ℕ) → Unsigned w limit value text → unsigned_at w (text ++ rest) ≡ Ok (value, rest)
     again value text rest s =
         let len = wide.len value in
@@ -189,10 +196,10 @@ Signed w z text = FitsSigned w z × (text ≡ signed w z)
 pub signed_number : (w : Width) → IsWide w (2 ^ bits w) → Reads (signed_at w) (Signed w)
 signed_number w wide =
     renamed (Seen (cast_signed w) (Unsigned w (2 ^ bits w))) (Signed w)
-      (λ z text t. let fits : Fits w t.0 = record { fits = t.2.0 } in
-        subst (λ (y : ℤ). Signed w y text) (sym t.1) (sfits_to_z fits, t.2.1 ∙ ap (to_be_bytes w) (sym (of_z-to_z w t.0 t.2.0))))
-      (λ z text t. (cast_unsigned w z, sym (to_z-of_z w z t.0), (below w z t.0, t.1)))
-      (seen (cast_signed w) (unsigned_number w (2 ^ bits w) wide))
+    (λ z text t. let fits : Fits w t.0 = record { fits = t.2.0 } in
+    subst (λ (y : ℤ). Signed w y text) (sym t.1) (sfits_to_z fits, t.2.1 ∙ ap (to_be_bytes w) (sym (of_z-to_z w t.0 t.2.0))))
+    (λ z text t. (cast_unsigned w z, sym (to_z-of_z w z t.0), (below w z t.0, t.1)))
+    (seen (cast_signed w) (unsigned_number w (2 ^ bits w) wide))
   where
     below : (w : Width) (z : ℤ) → FitsSigned w z → cast_unsigned w z < 2 ^ bits w
     below w z fits = (Fits-of_z {w = w} {z = z} fits).fits
@@ -215,29 +222,33 @@ count_number = record { takes = takes; again = again; stops = stops; some = (0, 
   where
     number : Reads (unsigned_at w32) (Unsigned w32 (2 ^ 32))
     number = unsigned_number w32 (2 ^ 32) wide32
+
     -- the first byte has no sign exactly where the number is below half
     low : (n : ℕ) (rest others : List ℕ) (b : ℕ) → n < 2 ^ 32 → b ∷ rest ≡ unsigned w32 n ++ others → b < 128 → n < 2 ^ 31
     low n rest others b lt e h =
         let head : b ≡ n / 16777216 % 256 = ap (λ (t : List ℕ). get_or t 0 0) e in
         omega arith
+
     takes : (bytes : List ℕ) (x : ℕ × List ℕ) → IsBytes bytes → count_at bytes ≡ Ok x → (text : List ℕ) × (bytes ≡ text ++ x.1) × Unsigned w32 (2 ^ 31) x.0 text
     takes [] x fits e = absurd cc
     takes (b ∷ rest) x fits e =
         let g = chosen_read (leb 128 b) (suc (length rest)) (unsigned_at w32 (b ∷ rest)) x e in
         let t = number.takes (b ∷ rest) x fits g.1 in
         (t.0, t.1, (low x.0 rest x.1 b t.2.0 (t.1 ∙ ap (λ (z : List ℕ). z ++ x.1) t.2.1) (leb-false 128 b g.0), t.2.1))
+
     again : (value : ℕ) (text rest : List ℕ) → Unsigned w32 (2 ^ 31) value text → count_at (text ++ rest) ≡ Ok (value, rest)
     again value text rest s =
         let small : leb 128 (value / 16777216 % 256) ≡ false = lt-leb _ _ (omega (arith, s.0)) in
         ap (λ (t : List ℕ). count_at (t ++ rest)) s.1 ∙ rw small (number.again value (unsigned w32 value) rest (omega (arith, s.0), refl))
+
     stops : (bytes : List ℕ) (left : ℕ) → IsBytes bytes → count_at bytes ≡ Err left → Ended (Unsigned w32 (2 ^ 31)) bytes left ⊎ Broken count_at (Unsigned w32 (2 ^ 31)) bytes left
     stops [] left fits e = inl (record { nothing = cc; more = unsigned w32 0; value = 0; whole = (omega arith, refl) })
     stops (b ∷ rest) left fits e =
         elim (chosen_stop (leb 128 b) (suc (length rest)) left (unsigned_at w32 (b ∷ rest)) e) [
           | inl g ↦ inr (record { front = []; byte = b; rest = rest; parts = refl; place = sym g.1; more = unsigned w32 0; value = 0; whole = (omega arith, refl); stays = λ others. rw g.0 refl })
           | inr g ↦
-            let d = number_ends w32 (2 ^ 32) wide32 (b ∷ rest) left fits g.1 in
-            inl (record { nothing = d.nothing; more = d.more; value = d.value; whole = (low d.value (rest ++ d.more) [] b d.whole.0 (d.whole.1 ∙ sym (append-nil (unsigned w32 d.value))) (leb-false 128 b g.0), d.whole.1) })
+              let d = number_ends w32 (2 ^ 32) wide32 (b ∷ rest) left fits g.1 in
+              inl (record { nothing = d.nothing; more = d.more; value = d.value; whole = (low d.value (rest ++ d.more) [] b d.whole.0 (d.whole.1 ∙ sym (append-nil (unsigned w32 d.value))) (leb-false 128 b g.0), d.whole.1) })
         ]
 
 -- ---- lists
@@ -250,19 +261,20 @@ pub listed : {A : Type 0} (Fits : A → Type 0) (spell : A → List ℕ) (read :
 unfolding times
 listed {A} Fits spell read r zero =
     renamed (λ values text. (values ≡ []) × (text ≡ [])) (Listed Fits spell zero)
-      (λ values text t. subst (λ (v : List A). Listed Fits spell zero v text) (sym t.0) (refl, tt, t.1))
-      (λ values text t. let none : values ≡ [] = nil_from_length values t.0 in (none, t.2 ∙ ap (flat_map spell) none))
-      (done [])
+    (λ values text t. subst (λ (v : List A). Listed Fits spell zero v text) (sym t.0) (refl, tt, t.1))
+    (λ values text t. let none : values ≡ [] = nil_from_length values t.0 in (none, t.2 ∙ ap (flat_map spell) none))
+    (done [])
 listed {A} Fits spell read r (suc n) =
     renamed (Then One (λ first. Seen (λ others. first ∷ others) (Listed Fits spell n))) (Listed Fits spell (suc n))
-      (λ values text t. subst (λ (v : List A). Listed Fits spell (suc n) v text) (sym t.second_is.1)
-        (ap suc t.second_is.2.0, (t.first_is.0, t.second_is.2.1), t.parts ∙ rw (t.first_is.1, t.second_is.2.2, flat_map-cons) refl))
-      back
-      (then {T = λ first. Seen (λ others. first ∷ others) (Listed Fits spell n)} (λ first bytes. times read n bytes >>= λ others. Ok (first ∷ others.0, others.1)) r
-        (λ first. seen (λ others. first ∷ others) (listed Fits spell read r n)))
+    (λ values text t. subst (λ (v : List A). Listed Fits spell (suc n) v text) (sym t.second_is.1)
+    (ap suc t.second_is.2.0, (t.first_is.0, t.second_is.2.1), t.parts ∙ rw (t.first_is.1, t.second_is.2.2, flat_map-cons) refl))
+    back
+    (then {T = λ first. Seen (λ others. first ∷ others) (Listed Fits spell n)} (λ first bytes. times read n bytes >>= λ others. Ok (first ∷ others.0, others.1)) r
+    (λ first. seen (λ others. first ∷ others) (listed Fits spell read r n)))
   where
     One : A → List ℕ → Type 0
     One value text = Fits value × (text ≡ spell value)
+
     back : (values : List A) (text : List ℕ) → Listed Fits spell (suc n) values text → Then One (λ first. Seen (λ others. first ∷ others) (Listed Fits spell n)) values text
     back [] text t = absurd (omega (arith, t.0))
     back (v ∷ vs) text t = record { first = v; front = spell v; back = flat_map spell vs; parts = t.2 ∙ flat_map-cons spell v vs; first_is = (t.1.0, refl); second_is = (vs, refl, (omega (arith, t.0), t.1.1, refl)) }

@@ -1,18 +1,18 @@
 -- What the operands of each form are read as, and that they are read so.
-use Rattle.std.proofs.Common.{◌≡◌, ℕ, suc, ◌+◌, ◌^◌, ◌<◌, Bool, true, false, List, [], ◌∷◌, ◌++◌, length, ℤ, Option, Some, None, Result, Ok, Err, refl, sym, ap, subst, ◌∙◌, arith, ◌⊎◌, inl, inr}
+use Rattle.std.proofs.Common.{◌≡◌, ℕ, ◌^◌, Bool, true, false, List, [], ◌∷◌, Option, Some, None, Result, Ok, refl, sym, subst, ◌∙◌, arith, inl, inr}
 use Rattle.std.specs.Prelude.{FitsSigned}
 use Rattle.std.specs.Int.{w8, w16, w32}
 use Rattle.wv_base.specs.declared.form.Form.{Form}
 use Rattle.wv_base.specs.declared.form.Form.TheVariants as form
 use Rattle.wv_base.specs.Instructions.{form_of}
-use Rattle.wv_base.specs.Opcodes.{nop, iload, iinc}
+use Rattle.wv_base.specs.Opcodes.{nop, iload}
 use Rattle.wv_insn.specs.declared.raw.Raw.{Raw}
 use Rattle.wv_insn.specs.declared.raw.Raw.TheVariants as raw
 use Rattle.wv_insn.specs.declared.raw.RawCase.{RawCase}
 use Rattle.wv_insn.specs.Spelling.{padding, targets, signed, case, IsCase}
 use Rattle.wv_insn.specs.Reading
 use Rattle.wv_insn.specs.Reading.{◌>>=◌, unsigned_at, signed_at, times, case_at, opcode_at, wide_at, operands_at, instruction_at}
-use Rattle.wv_insn.proofs.Readers.{Reads, renamed, done, Then, then, Seen, seen, alike, meant_at, Meant, meant, option_is, found_at}
+use Rattle.wv_insn.proofs.Readers.{Reads, renamed, done, Then, then, Seen, seen, alike, meant_at, Meant, meant, option_is}
 use Rattle.wv_insn.proofs.Numbers.{Byte, byte, Zero, zero_byte, Bytes, some_bytes, Unsigned, Signed, byte_signed, short_signed, int_signed, short_unsigned, count_number, Listed, listed}
 
 -- ---- opcodes
@@ -86,7 +86,7 @@ Wider = Then Widened (λ x. Widths x.0 x.1)
 
 wider : Reads wide_at Wider
 wider = alike parted_at wide_at Wider wide_alike
-  (then (λ x bytes. widths_at x.0 x.1 bytes) (meant (λ op. widened op (form_of op)) iload (iload, false) (omega arith) (rw iload_is refl)) (λ x. widths x.0 x.1))
+    (then (λ x bytes. widths_at x.0 x.1 bytes) (meant (λ op. widened op (form_of op)) iload (iload, false) (omega arith) (rw iload_is refl)) (λ x. widths x.0 x.1))
 
 -- ---- cases
 
@@ -94,9 +94,9 @@ one_case : Reads case_at (λ c text. IsCase c × (text ≡ case c))
 unfolding case_at
 one_case =
     renamed (Then (Signed w32) (λ key. Seen (λ offset. record { key = key; offset = offset }) (Signed w32))) (λ c text. IsCase c × (text ≡ case c))
-      (λ c text t. subst (λ (d : RawCase). IsCase d × (text ≡ case d)) (sym t.second_is.1) ((t.first_is.0, t.second_is.2.0), t.parts ∙ rw (t.first_is.1, t.second_is.2.1) refl))
-      (λ c text t. record { first = c.key; front = signed w32 c.key; back = signed w32 c.offset; parts = t.1; first_is = (t.0.0, refl); second_is = (c.offset, refl, (t.0.1, refl)) })
-      (then (λ key bytes. signed_at w32 bytes >>= λ offset. Ok (record { key = key; offset = offset.0 }, offset.1)) int_signed (λ key. seen (λ offset. record { key = key; offset = offset }) int_signed))
+    (λ c text t. subst (λ (d : RawCase). IsCase d × (text ≡ case d)) (sym t.second_is.1) ((t.first_is.0, t.second_is.2.0), t.parts ∙ rw (t.first_is.1, t.second_is.2.1) refl))
+    (λ c text t. record { first = c.key; front = signed w32 c.key; back = signed w32 c.offset; parts = t.1; first_is = (t.0.0, refl); second_is = (c.offset, refl, (t.0.1, refl)) })
+    (then (λ key bytes. signed_at w32 bytes >>= λ offset. Ok (record { key = key; offset = offset.0 }, offset.1)) int_signed (λ key. seen (λ offset. record { key = key; offset = offset }) int_signed))
 
 -- ---- the operands of each form
 
@@ -127,17 +127,17 @@ Row at op form.Wide = Wider
 table : (at : ℕ) → Reads (Reading.table_at at) (Row at 0 form.Table)
 unfolding Reading.table_at
 table at = then (λ pad bytes. signed_at w32 bytes >>= λ other. signed_at w32 other.1 >>= λ low. signed_at w32 low.1 >>= λ high. times (signed_at w32) (targets low.0 high.0) high.1 >>= λ offsets. Ok (raw.Table low.0 high.0 other.0 offsets.0, offsets.1)) (some_bytes (padding at))
-  (λ pad. then (λ other bytes. signed_at w32 bytes >>= λ low. signed_at w32 low.1 >>= λ high. times (signed_at w32) (targets low.0 high.0) high.1 >>= λ offsets. Ok (raw.Table low.0 high.0 other offsets.0, offsets.1)) int_signed
-  (λ other. then (λ low bytes. signed_at w32 bytes >>= λ high. times (signed_at w32) (targets low high.0) high.1 >>= λ offsets. Ok (raw.Table low high.0 other offsets.0, offsets.1)) int_signed
-  (λ low. then (λ high bytes. times (signed_at w32) (targets low high) bytes >>= λ offsets. Ok (raw.Table low high other offsets.0, offsets.1)) int_signed
-  (λ high. seen (λ offsets. raw.Table low high other offsets) (listed (FitsSigned w32) (signed w32) (signed_at w32) int_signed (targets low high))))))
+    (λ pad. then (λ other bytes. signed_at w32 bytes >>= λ low. signed_at w32 low.1 >>= λ high. times (signed_at w32) (targets low.0 high.0) high.1 >>= λ offsets. Ok (raw.Table low.0 high.0 other offsets.0, offsets.1)) int_signed
+    (λ other. then (λ low bytes. signed_at w32 bytes >>= λ high. times (signed_at w32) (targets low high.0) high.1 >>= λ offsets. Ok (raw.Table low high.0 other offsets.0, offsets.1)) int_signed
+    (λ low. then (λ high bytes. times (signed_at w32) (targets low high) bytes >>= λ offsets. Ok (raw.Table low high other offsets.0, offsets.1)) int_signed
+    (λ high. seen (λ offsets. raw.Table low high other offsets) (listed (FitsSigned w32) (signed w32) (signed_at w32) int_signed (targets low high))))))
 
 lookup : (at : ℕ) → Reads (Reading.lookup_at at) (Row at 0 form.Lookup)
 unfolding Reading.lookup_at
 lookup at = then (λ pad bytes. signed_at w32 bytes >>= λ other. Reading.count_at other.1 >>= λ count. times case_at count.0 count.1 >>= λ cases. Ok (raw.Lookup other.0 cases.0, cases.1)) (some_bytes (padding at))
-  (λ pad. then (λ other bytes. Reading.count_at bytes >>= λ count. times case_at count.0 count.1 >>= λ cases. Ok (raw.Lookup other cases.0, cases.1)) int_signed
-  (λ other. then (λ count bytes. times case_at count bytes >>= λ cases. Ok (raw.Lookup other cases.0, cases.1)) count_number
-  (λ count. seen (λ cases. raw.Lookup other cases) (listed IsCase case case_at one_case count))))
+    (λ pad. then (λ other bytes. Reading.count_at bytes >>= λ count. times case_at count.0 count.1 >>= λ cases. Ok (raw.Lookup other cases.0, cases.1)) int_signed
+    (λ other. then (λ count bytes. times case_at count bytes >>= λ cases. Ok (raw.Lookup other cases.0, cases.1)) count_number
+    (λ count. seen (λ cases. raw.Lookup other cases) (listed IsCase case case_at one_case count))))
 
 increment : Reads Reading.increment_at (Row 0 0 form.Increment)
 unfolding Reading.increment_at
@@ -146,12 +146,12 @@ increment = then (λ slot bytes. signed_at w8 bytes >>= λ by. Ok (raw.Inc slot 
 interface : Reads Reading.interface_at (Row 0 0 form.Interface)
 unfolding Reading.interface_at
 interface = then (λ number bytes. Reading.byte_at bytes >>= λ count. Reading.byte_at count.1 >>= λ last. Ok (raw.Interface number count.0 last.0, last.1)) short_unsigned
-  (λ number. then (λ count bytes. Reading.byte_at bytes >>= λ last. Ok (raw.Interface number count last.0, last.1)) byte (λ count. seen (λ last. raw.Interface number count last) byte))
+    (λ number. then (λ count bytes. Reading.byte_at bytes >>= λ last. Ok (raw.Interface number count last.0, last.1)) byte (λ count. seen (λ last. raw.Interface number count last) byte))
 
 dynamic : Reads Reading.dynamic_at (Row 0 0 form.Dynamic)
 unfolding Reading.dynamic_at
 dynamic = then (λ number bytes. Reading.zero_at bytes >>= λ first. Reading.zero_at first.1 >>= λ second. Ok (raw.Dynamic number, second.1)) short_unsigned
-  (λ number. then (λ first bytes. Reading.zero_at bytes >>= λ second. Ok (raw.Dynamic number, second.1)) zero_byte (λ first. seen (λ second. raw.Dynamic number) zero_byte))
+    (λ number. then (λ first bytes. Reading.zero_at bytes >>= λ second. Ok (raw.Dynamic number, second.1)) zero_byte (λ first. seen (λ second. raw.Dynamic number) zero_byte))
 
 multi_array : Reads Reading.multi_array_at (Row 0 0 form.MultiArray)
 unfolding Reading.multi_array_at

@@ -1,6 +1,6 @@
 -- What a reader keeps: what it reads is spelled so, what is spelled so is read again, and where it stops,
 -- the bytes before begin what it reads. A reader after another keeps it too.
-use Rattle.std.proofs.Common.{◌≡◌, ℕ, zero, suc, ◌+◌, ◌<◌, ◌≤◌, List, [], ◌∷◌, ◌++◌, length, get_or, Result, Ok, Err, refl, sym, ap, subst, ◌∙◌, append_assoc, arith, ◌⊎◌, inl, inr, ◌^◌, Option, Some, None}
+use Rattle.std.proofs.Common.{◌≡◌, ℕ, suc, ◌+◌, ◌<◌, List, [], ◌∷◌, ◌++◌, length, get_or, Result, Ok, Err, refl, sym, ap, subst, ◌∙◌, append_assoc, ◌⊎◌, inl, inr, ◌^◌, Option, Some, None}
 use Rattle.std.proofs.lemmas.List.{append-nil, get_or-append-add}
 use Rattle.wv_insn.specs.Reading.{◌>>=◌}
 
@@ -85,36 +85,44 @@ pub then : {A B : Type 0} {read : List ℕ → Result (A × List ℕ) ℕ} {S : 
     → Reads (λ bytes. read bytes >>= λ x. next x.0 x.1) (Then S T)
 then {A} {B} {read} {S} {T} next r n = record {
   takes = λ bytes y fits e.
-    let b = bind_ok (read bytes) (λ x. next x.0 x.1) y e in
-    let t = r.takes bytes b.0 fits b.1 in
-    let u = (n b.0.0).takes b.0.1 y (IsBytes-behind t.0 b.0.1 (subst IsBytes t.1 fits)) b.2 in
-    (t.0 ++ u.0, t.1 ∙ ap (λ (z : List ℕ). t.0 ++ z) u.1 ∙ sym (append_assoc t.0 u.0 y.1), record { first = b.0.0; front = t.0; back = u.0; parts = refl; first_is = t.2; second_is = u.2 });
+      let b = bind_ok (read bytes) (λ x. next x.0 x.1) y e in
+      let t = r.takes bytes b.0 fits b.1 in
+      let u = (n b.0.0).takes b.0.1 y (IsBytes-behind t.0 b.0.1 (subst IsBytes t.1 fits)) b.2 in
+      (t.0 ++ u.0, t.1 ∙ ap (λ (z : List ℕ). t.0 ++ z) u.1 ∙ sym (append_assoc t.0 u.0 y.1), record { first = b.0.0; front = t.0; back = u.0; parts = refl; first_is = t.2; second_is = u.2 });
   again = λ value text rest s.
-    let e : text ++ rest ≡ s.front ++ (s.back ++ rest) = ap (λ (z : List ℕ). z ++ rest) s.parts ∙ append_assoc s.front s.back rest in
-    rw (e, r.again s.first s.front (s.back ++ rest) s.first_is) ((n s.first).again value s.back rest s.second_is);
+      let e : text ++ rest ≡ s.front ++ (s.back ++ rest) = ap (λ (z : List ℕ). z ++ rest) s.parts ∙ append_assoc s.front s.back rest in
+      rw (e, r.again s.first s.front (s.back ++ rest) s.first_is) ((n s.first).again value s.back rest s.second_is);
   stops = λ bytes left fits e. elim (bind_err (read bytes) (λ x. next x.0 x.1) left e) [
     | inl first ↦ elim (r.stops bytes left fits first) [
       | inl d ↦
-        let more = (n d.value).some in
-        inl (record { nothing = d.nothing; more = d.more ++ more.1; value = more.0; whole = record { first = d.value; front = bytes ++ d.more; back = more.1; parts = sym (append_assoc bytes d.more more.1); first_is = d.whole; second_is = more.2 } })
+          let more = (n d.value).some in
+          inl (record { nothing = d.nothing; more = d.more ++ more.1; value = more.0; whole = record { first = d.value; front = bytes ++ d.more; back = more.1; parts = sym (append_assoc bytes d.more more.1); first_is = d.whole; second_is = more.2 } })
       | inr d ↦
-        let more = (n d.value).some in
-        inr (record { front = d.front; byte = d.byte; rest = d.rest; parts = d.parts; place = d.place; more = d.more ++ more.1; value = more.0; whole = record { first = d.value; front = d.front ++ d.more; back = more.1; parts = sym (append_assoc d.front d.more more.1); first_is = d.whole; second_is = more.2 }; stays = λ others. rw (d.stays others) refl })
+          let more = (n d.value).some in
+          inr (record { front = d.front; byte = d.byte; rest = d.rest; parts = d.parts; place = d.place; more = d.more ++ more.1; value = more.0; whole = record { first = d.value; front = d.front ++ d.more; back = more.1; parts = sym (append_assoc d.front d.more more.1); first_is = d.whole; second_is = more.2 }; stays = λ others. rw (d.stays others) refl })
     ]
     | inr second ↦
-      let t = r.takes bytes second.0 fits second.1 in
-      elim ((n second.0.0).stops second.0.1 left (IsBytes-behind t.0 second.0.1 (subst IsBytes t.1 fits)) second.2) [
-      | inl d ↦
-        inl (record { nothing = d.nothing; more = d.more; value = d.value; whole = record { first = second.0.0; front = t.0; back = second.0.1 ++ d.more; parts = ap (λ (z : List ℕ). z ++ d.more) t.1 ∙ append_assoc t.0 second.0.1 d.more; first_is = t.2; second_is = d.whole } })
-      | inr d ↦
-        inr (record { front = t.0 ++ d.front; byte = d.byte; rest = d.rest; parts = t.1 ∙ ap (λ (z : List ℕ). t.0 ++ z) d.parts ∙ sym (append_assoc t.0 d.front (d.byte ∷ d.rest)); place = d.place; more = d.more; value = d.value;
-          whole = record { first = second.0.0; front = t.0; back = d.front ++ d.more; parts = append_assoc t.0 d.front d.more; first_is = t.2; second_is = d.whole };
-          stays = λ others. rw (append_assoc t.0 d.front (d.byte ∷ others), r.again second.0.0 t.0 (d.front ++ d.byte ∷ others) t.2) (d.stays others) })
-    ]
+        let t = r.takes bytes second.0 fits second.1 in
+        elim ((n second.0.0).stops second.0.1 left (IsBytes-behind t.0 second.0.1 (subst IsBytes t.1 fits)) second.2) [
+          | inl d ↦
+              inl (record { nothing = d.nothing; more = d.more; value = d.value; whole = record { first = second.0.0; front = t.0; back = second.0.1 ++ d.more; parts = ap (λ (z : List ℕ). z ++ d.more) t.1 ∙ append_assoc t.0 second.0.1 d.more; first_is = t.2; second_is = d.whole } })
+          | inr d ↦
+              inr (record {
+                front = t.0 ++ d.front;
+                byte = d.byte;
+                rest = d.rest;
+                parts = t.1 ∙ ap (λ (z : List ℕ). t.0 ++ z) d.parts ∙ sym (append_assoc t.0 d.front (d.byte ∷ d.rest));
+                place = d.place;
+                more = d.more;
+                value = d.value;
+                whole = record { first = second.0.0; front = t.0; back = d.front ++ d.more; parts = append_assoc t.0 d.front d.more; first_is = t.2; second_is = d.whole };
+                stays = λ others. rw (append_assoc t.0 d.front (d.byte ∷ others), r.again second.0.0 t.0 (d.front ++ d.byte ∷ others) t.2) (d.stays others);
+              })
+        ]
   ];
   some =
-    let next_some = (n r.some.0).some in
-    (next_some.0, r.some.1 ++ next_some.1, record { first = r.some.0; front = r.some.1; back = next_some.1; parts = refl; first_is = r.some.2; second_is = next_some.2 });
+      let next_some = (n r.some.0).some in
+      (next_some.0, r.some.1 ++ next_some.1, record { first = r.some.0; front = r.some.1; back = next_some.1; parts = refl; first_is = r.some.2; second_is = next_some.2 });
 }
 
 -- what is read, seen otherwise
@@ -124,9 +132,9 @@ Seen {A} f S other text = (value : A) × (other ≡ f value) × S value text
 pub seen : {A B : Type 0} {read : List ℕ → Result (A × List ℕ) ℕ} {S : A → List ℕ → Type 0} (f : A → B) → Reads read S → Reads (λ bytes. read bytes >>= λ x. Ok (f x.0, x.1)) (Seen f S)
 seen {A} {B} {read} {S} f r =
     renamed (Then S (λ value other text. (other ≡ f value) × (text ≡ []))) (Seen f S)
-      (λ other text t. (t.first, t.second_is.0, subst (S t.first) (sym (t.parts ∙ ap (λ (z : List ℕ). t.front ++ z) t.second_is.1 ∙ append-nil t.front)) t.first_is))
-      (λ other text t. record { first = t.0; front = text; back = []; parts = sym (append-nil text); first_is = t.2; second_is = (t.1, refl) })
-      (then {T = λ value other text. (other ≡ f value) × (text ≡ [])} (λ value bytes. Ok (f value, bytes)) r (λ value. done (f value)))
+    (λ other text t. (t.first, t.second_is.0, subst (S t.first) (sym (t.parts ∙ ap (λ (z : List ℕ). t.front ++ z) t.second_is.1 ∙ append-nil t.front)) t.first_is))
+    (λ other text t. record { first = t.0; front = text; back = []; parts = sym (append-nil text); first_is = t.2; second_is = (t.1, refl) })
+    (then {T = λ value other text. (other ≡ f value) × (text ≡ [])} (λ value bytes. Ok (f value, bytes)) r (λ value. done (f value)))
 
 -- a reader that answers alike
 pub alike : {A : Type 0} (read other : List ℕ → Result (A × List ℕ) ℕ) (S : A → List ℕ → Type 0) → ((bytes : List ℕ) → other bytes ≡ read bytes) → Reads read S → Reads other S
@@ -165,23 +173,26 @@ meant {A} meaning byte value lt e = record { takes = takes; again = again; stops
   where
     example : Meant meaning value (byte ∷ [])
     example = record { byte = byte; small = lt; means = e; alone = refl }
+
     takes : (bytes : List ℕ) (x : A × List ℕ) → IsBytes bytes → meant_at meaning bytes ≡ Ok x → (text : List ℕ) × (bytes ≡ text ++ x.1) × Meant meaning x.0 text
     takes [] x fits read = absurd cc
     takes (b ∷ rest) x fits read =
         elim (option_is (meaning b)) [
           | inl none ↦ absurd (let failed : Path (Result (A × List ℕ) ℕ) (Err (suc (length rest))) (Ok x) = rw none at read in cc)
           | inr some ↦
-            let is : Path (Result (A × List ℕ) ℕ) (Ok (some.0, rest)) (Ok x) = rw some.1 at read in
-            subst (λ (y : A × List ℕ). (text : List ℕ) × (b ∷ rest ≡ text ++ y.1) × Meant meaning y.0 text) (ok_is (some.0, rest) x is) (b ∷ [], refl, record { byte = b; small = fits 0; means = some.1; alone = refl })
+              let is : Path (Result (A × List ℕ) ℕ) (Ok (some.0, rest)) (Ok x) = rw some.1 at read in
+              subst (λ (y : A × List ℕ). (text : List ℕ) × (b ∷ rest ≡ text ++ y.1) × Meant meaning y.0 text) (ok_is (some.0, rest) x is) (b ∷ [], refl, record { byte = b; small = fits 0; means = some.1; alone = refl })
         ]
+
     again : (v : A) (text rest : List ℕ) → Meant meaning v text → meant_at meaning (text ++ rest) ≡ Ok (v, rest)
     again v text rest s = ap (λ (t : List ℕ). meant_at meaning (t ++ rest)) s.alone ∙ rw s.means refl
+
     stops : (bytes : List ℕ) (left : ℕ) → IsBytes bytes → meant_at meaning bytes ≡ Err left → Ended (Meant meaning) bytes left ⊎ Broken (meant_at meaning) (Meant meaning) bytes left
     stops [] left fits read = inl (record { nothing = cc; more = byte ∷ []; value = value; whole = example })
     stops (b ∷ rest) left fits read =
         elim (option_is (meaning b)) [
           | inl none ↦
-            let failed : Path (Result (A × List ℕ) ℕ) (Err (suc (length rest))) (Err left) = rw none at read in
-            inr (record { front = []; byte = b; rest = rest; parts = refl; place = cc; more = byte ∷ []; value = value; whole = example; stays = λ others. rw none refl })
+              let failed : Path (Result (A × List ℕ) ℕ) (Err (suc (length rest))) (Err left) = rw none at read in
+              inr (record { front = []; byte = b; rest = rest; parts = refl; place = cc; more = byte ∷ []; value = value; whole = example; stays = λ others. rw none refl })
           | inr some ↦ absurd (let is : Path (Result (A × List ℕ) ℕ) (Ok (some.0, rest)) (Err left) = rw some.1 at read in cc)
         ]

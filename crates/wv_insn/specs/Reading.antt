@@ -1,6 +1,6 @@
 -- Reading an instruction from left to right. A value is given with the bytes behind it, or else the number
 -- of bytes that are left where the reading stops: 0 at their end.
-use Rattle.std.specs.Prelude.{◌≡◌, ℕ, zero, suc, ◌-◌, List, [], ◌∷◌, length, take, drop, ℤ, Bool, true, false, Option, Some, None, Result, Ok, Err, nat_lt, nat_le, if◌then◌else◌}
+use Rattle.std.specs.Prelude.{◌≡◌, ℕ, zero, suc, List, [], ◌∷◌, length, take, drop, ℤ, true, false, Option, Some, None, Result, Ok, Err, nat_lt, nat_le, if◌then◌else◌}
 use Rattle.std.specs.Int.{Width, w8, w16, w32, byte_len, from_be_bytes, cast_signed}
 use Rattle.wv_base.specs.declared.form.Form.{Form}
 use Rattle.wv_base.specs.declared.form.Form.TheVariants as form

@@ -1,5 +1,5 @@
 -- How instructions are spelled in bytes (JVM Specification chapter 6).
-use Rattle.std.specs.Prelude.{◌≡◌, ℕ, ◌+◌, ◌-◌, ◌%◌, ◌^◌, ◌<◌, List, [], ◌∷◌, ◌++◌, length, replicate, ℤ, ◌-ℤ◌, int_le, unsigned_abs, FitsSigned, Bool, true, false, Option, Some, None, ◌⊎◌, if◌then◌else◌}
+use Rattle.std.specs.Prelude.{◌≡◌, ℕ, ◌+◌, ◌-◌, ◌%◌, ◌^◌, ◌<◌, List, [], ◌∷◌, ◌++◌, length, replicate, ℤ, ◌-ℤ◌, int_le, unsigned_abs, FitsSigned, true, false, Option, Some, ◌⊎◌, if◌then◌else◌}
 use Rattle.std.specs.List.{flat_map, AllByRecursion}
 use Rattle.std.specs.Int.{Width, w8, w16, w32, to_be_bytes, cast_unsigned}
 use Rattle.wv_base.specs.declared.form.Form.{Form}

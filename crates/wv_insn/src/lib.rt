@@ -12,7 +12,8 @@ mod writing;
 
 pub use fault::InsnFault;
 pub use laws::{
-    decode_after_encode, encode_after_decode, one_instruction, what_a_first_fault_is, what_is_encodable,
+    decode_after_encode, encode_after_decode, one_instruction, what_a_first_fault_is,
+    what_is_encodable,
 };
 pub use raw::{Offsets, Raw, RawCase, RawCases};
 pub use reading::decode;

@@ -5,12 +5,19 @@ ghost use Rattle.wv_base.specs.Instructions.{form_of};
 use wv_base::Form;
 
 pub(crate) const IINC: u8 = 0x84;
+
 pub(crate) const TABLESWITCH: u8 = 0xaa;
+
 pub(crate) const LOOKUPSWITCH: u8 = 0xab;
+
 pub(crate) const INVOKEINTERFACE: u8 = 0xb9;
+
 pub(crate) const INVOKEDYNAMIC: u8 = 0xba;
+
 pub(crate) const NEWARRAY: u8 = 0xbc;
+
 pub(crate) const WIDE: u8 = 0xc4;
+
 pub(crate) const MULTIANEWARRAY: u8 = 0xc5;
 
 /// The form of the operands behind an opcode, where an instruction has it.

@@ -114,20 +114,22 @@ impl Raw {
                     || has_form(*op, Form::Byte) && i8::try_from(*value).is_ok()
             }
             Raw::Load { op, number } => {
-                has_form(*op, Form::WideConstant) || has_form(*op, Form::Constant) && *number < 0x100
+                has_form(*op, Form::WideConstant)
+                    || has_form(*op, Form::Constant) && *number < 0x100
             }
             Raw::Local { op, slot, wide } => {
                 has_form(*op, Form::Local) && (*wide || *slot < 0x100)
             }
-            Raw::Inc { slot, by, wide } => {
-                *wide || *slot < 0x100 && i8::try_from(*by).is_ok()
-            }
+            Raw::Inc { slot, by, wide } => { *wide || *slot < 0x100 && i8::try_from(*by).is_ok() }
             Raw::Branch { op, offset } => {
                 has_form(*op, Form::WideBranch)
                     || has_form(*op, Form::Branch) && i16::try_from(*offset).is_ok()
             }
             Raw::Table {
-                low, high, offsets, ..
+                low,
+                high,
+                offsets,
+                ..
             } => offsets.len() as u64 == targets(*low, *high),
             Raw::Lookup { cases, .. } => cases.len() < 0x8000_0000,
             Raw::Reference { op, .. } => has_form(*op, Form::Reference),

@@ -7,7 +7,7 @@ ghost use Rattle.wv_insn.specs.Standing.{Stands, IsCause, IsUnlessMemory};
 ghost use Rattle.wv_insn.specs.Reading.{Gives, times, signed_at, case_at, opcode_at, push_byte_at, push_short_at, constant_at, wide_constant_at, local_at, increment_at, branch_at, wide_branch_at, table_at, lookup_at, reference_at, interface_at, dynamic_at, class_at, array_at, multi_array_at, wide_at, operands_at, instruction_at};
 
 use crate::fault::{InsnFault, Stop};
-use crate::number::{bytes_at, count_at, i16_at, i32_at, i8_at, u16_at, u8_at, zero_at};
+use crate::number::{bytes_at, count_at, i8_at, i16_at, i32_at, u8_at, u16_at, zero_at};
 use crate::opcode::form_of;
 use crate::raw::{Offsets, Raw, RawCase, RawCases};
 use crate::switch::{padding, targets};

@@ -22,8 +22,20 @@ const FAMILIES: [(u8, u8, &[u8]); 27] = [
     (0x84, 0x84, &[4, 0xff]),
     (0x85, 0x98, &[]),
     (0x99, 0xa7, &[0xff, 0xfd]),
-    (0xaa, 0xaa, &[0, 0, 0, 0, 0, 0, 9, 255, 255, 255, 255, 0, 0, 0, 0, 0, 0, 0, 7, 0, 0, 0, 8]),
-    (0xab, 0xab, &[0, 0, 0, 0, 0, 0, 9, 0, 0, 0, 1, 255, 255, 255, 255, 0, 0, 0, 8]),
+    (
+        0xaa,
+        0xaa,
+        &[
+            0, 0, 0, 0, 0, 0, 9, 255, 255, 255, 255, 0, 0, 0, 0, 0, 0, 0, 7, 0, 0, 0, 8,
+        ],
+    ),
+    (
+        0xab,
+        0xab,
+        &[
+            0, 0, 0, 0, 0, 0, 9, 0, 0, 0, 1, 255, 255, 255, 255, 0, 0, 0, 8,
+        ],
+    ),
     (0xac, 0xb1, &[]),
     (0xb2, 0xb8, &[1, 2]),
     (0xb9, 0xb9, &[1, 2, 3, 4]),
@@ -87,7 +99,11 @@ fn each_opcode_once(rt: HostRuntime) -> Result<(), Fail> {
             let mut code = Vec::new(alloc);
             code.push(op)?;
             code.extend_from_slice(operands)?;
-            assert_eq!(rt; length_at(alloc, code.as_slice(), 0), Some(code.len()), "{op:x}");
+            assert_eq!(rt;
+                length_at(alloc, code.as_slice(), 0),
+                Some(code.len()),
+                "{op:x}"
+            );
             let bytes = again(alloc, code.as_slice()).ok_or("it can be written")?;
             assert_eq!(rt; bytes.as_slice(), code.as_slice(), "{op:x}");
             for cut in 0..code.len() {
@@ -107,7 +123,11 @@ fn each_widened_opcode_once(rt: HostRuntime) -> Result<(), Fail> {
             code.push(0xc4)?;
             code.push(op)?;
             code.extend_from_slice(operands)?;
-            assert_eq!(rt; length_at(alloc, code.as_slice(), 0), Some(code.len()), "{op:x}");
+            assert_eq!(rt;
+                length_at(alloc, code.as_slice(), 0),
+                Some(code.len()),
+                "{op:x}"
+            );
             let bytes = again(alloc, code.as_slice()).ok_or("it can be written")?;
             assert_eq!(rt; bytes.as_slice(), code.as_slice(), "{op:x}");
             for cut in 0..code.len() {
@@ -124,7 +144,9 @@ fn reserved_opcodes(rt: HostRuntime) {
     for op in 0u8..=255 {
         let reserved = matches!(op, 0xa8 | 0xa9 | 0xc9..=0xff);
         let widened = matches!(op, 0x15..=0x19 | 0x36..=0x3a | 0x84);
-        let code = [0, op, 0, 0, 0, 0, 0, 0, 0, 0, 0, 0, 0, 0, 0, 0, 0, 0, 0, 0, 0];
+        let code = [
+            0, op, 0, 0, 0, 0, 0, 0, 0, 0, 0, 0, 0, 0, 0, 0, 0, 0, 0, 0, 0,
+        ];
         assert_eq!(rt; fault_at(alloc, &code, 1) == Some(1), reserved, "{op:x}");
         let wide = [0, 0xc4, op, 0, 0, 0, 0];
         assert_eq!(rt; fault_at(alloc, &wide, 1) == Some(2), !widened, "{op:x}");
@@ -135,7 +157,10 @@ fn reserved_opcodes(rt: HostRuntime) {
 fn first_faults(rt: HostRuntime) {
     let alloc = rt.alloc();
     // A negative count of pairs, at its first byte, even where the code ends behind it.
-    assert_eq!(rt; fault_at(alloc, &[0xab, 0, 0, 0, 0, 0, 0, 9, 0x80], 0), Some(8));
+    assert_eq!(rt;
+        fault_at(alloc, &[0xab, 0, 0, 0, 0, 0, 0, 9, 0x80], 0),
+        Some(8)
+    );
     // The last two bytes of invokedynamic.
     assert_eq!(rt; fault_at(alloc, &[0xba, 0, 1, 1], 0), Some(3));
     assert_eq!(rt; fault_at(alloc, &[0xba, 0, 1, 0, 1, 0], 0), Some(4));
@@ -155,11 +180,68 @@ fn first_faults(rt: HostRuntime) {
 #[test]
 fn signed_operands(rt: HostRuntime) {
     let alloc = rt.alloc();
-    assert!(rt; matches!(decode(alloc, &[0x10, 0xff], 0), Ok((Raw::Push { op: 0x10, value: -1 }, 2))));
-    assert!(rt; matches!(decode(alloc, &[0x84, 0xff, 0xff], 0), Ok((Raw::Inc { slot: 255, by: -1, wide: false }, 3))));
-    assert!(rt; matches!(decode(alloc, &[0xa7, 0xff, 0xfd], 0), Ok((Raw::Branch { op: 0xa7, offset: -3 }, 3))));
+    assert!(rt;
+        matches!(
+            decode(alloc, &[0x10, 0xff], 0),
+            Ok((
+                Raw::Push {
+                    op: 0x10,
+                    value: -1
+                },
+                2
+            ))
+        )
+    );
+    assert!(rt;
+        matches!(
+            decode(alloc, &[0x84, 0xff, 0xff], 0),
+            Ok((
+                Raw::Inc {
+                    slot: 255,
+                    by: -1,
+                    wide: false
+                },
+                3
+            ))
+        )
+    );
+    assert!(rt;
+        matches!(
+            decode(alloc, &[0xa7, 0xff, 0xfd], 0),
+            Ok((
+                Raw::Branch {
+                    op: 0xa7,
+                    offset: -3
+                },
+                3
+            ))
+        )
+    );
     let goto_w = [0xc8, 0, 1, 0, 0];
-    assert!(rt; matches!(decode(alloc, &goto_w, 0), Ok((Raw::Branch { op: 0xc8, offset: 65536 }, 5))));
+    assert!(rt;
+        matches!(
+            decode(alloc, &goto_w, 0),
+            Ok((
+                Raw::Branch {
+                    op: 0xc8,
+                    offset: 65536
+                },
+                5
+            ))
+        )
+    );
     let iinc = [0xc4, 0x84, 1, 0, 0x80, 0];
-    assert!(rt; matches!(decode(alloc, &iinc, 0), Ok((Raw::Inc { slot: 256, by: -32768, wide: true }, 6))));
+    assert!(rt;
+        matches!(
+            decode(alloc, &iinc, 0),
+            Ok((
+                Raw::Inc {
+                    slot: 256,
+                    by: -32768,
+                    wide: true
+                },
+                6
+            ))
+        )
+    );
 }

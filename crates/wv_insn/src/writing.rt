@@ -204,17 +204,40 @@ pub fn encode(raw: &Raw, at: usize, out: &mut Bytes) -> Result<(), Memory>
         Raw::Plain { op } => out.push(*op),
         Raw::Push { op, value } => push(out, *op, *value),
         Raw::Load { op, number } => load(out, *op, *number),
-        Raw::Local { op, slot, wide: false } => local(out, *op, *slot),
-        Raw::Local { op, slot, wide: true } => wide_local(out, *op, *slot),
-        Raw::Inc { slot, by, wide: false } => increment(out, *slot, *by),
-        Raw::Inc { slot, by, wide: true } => wide_increment(out, *slot, *by),
+        Raw::Local {
+            op,
+            slot,
+            wide: false,
+        } => local(out, *op, *slot),
+        Raw::Local {
+            op,
+            slot,
+            wide: true,
+        } => wide_local(out, *op, *slot),
+        Raw::Inc {
+            slot,
+            by,
+            wide: false,
+        } => increment(out, *slot, *by),
+        Raw::Inc {
+            slot,
+            by,
+            wide: true,
+        } => wide_increment(out, *slot, *by),
         Raw::Branch { op, offset } => branch(out, *op, *offset),
-        Raw::Table { low, high, other, offsets } => {
-            table(out, at, (*low, *high), *other, offsets.as_slice())
-        }
+        Raw::Table {
+            low,
+            high,
+            other,
+            offsets,
+        } => { table(out, at, (*low, *high), *other, offsets.as_slice()) }
         Raw::Lookup { other, cases } => lookup(out, at, *other, cases.as_slice()),
         Raw::Reference { op, number } => numbered(out, *op, *number),
-        Raw::Interface { number, count, zero } => interface(out, *number, *count, *zero),
+        Raw::Interface {
+            number,
+            count,
+            zero,
+        } => interface(out, *number, *count, *zero),
         Raw::Dynamic { number } => dynamic(out, *number),
         Raw::Class { op, number } => numbered(out, *op, *number),
         Raw::NewArray { kind } => out.extend(&[NEWARRAY, *kind]),

@@ -1,6 +1,5 @@
 use Rattle.std.proofs.Common.{◌≡◌, ◌-◌}
-use Rattle.std.specs.Int.{w32}
-use Rattle.wv_insn.specs.Reading.{signed_at, case_at, times}
+use Rattle.wv_insn.specs.Reading.{case_at, times}
 use Rattle.wv_insn.proofs.Times.{with_front}
 use Rattle.wv_insn.proofs.reading.cases.Given as goal
 

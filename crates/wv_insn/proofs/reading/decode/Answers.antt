@@ -1,8 +1,6 @@
-use Rattle.std.proofs.Common.{◌≡◌, ℕ, ◌≤◌, ◌+◌, ◌-◌, List, length, take, drop, Ok, Err, ap, sym, ◌∙◌, arith}
+use Rattle.std.proofs.Common.{◌≡◌, ◌+◌, drop, Ok, Err, ap, sym, ◌∙◌, arith}
 use Rattle.std.proofs.lemmas.List.{take_rest, get_or-drop}
-use Rattle.wv_insn.specs.declared.fault.InsnFault.TheVariants as fault
 use Rattle.wv_insn.specs.Reading.{instruction_at}
-use Rattle.wv_insn.proofs.Readers.{IsBytes}
 use Rattle.wv_insn.proofs.Faults.{read_stands, reads_one, none_stands, past_end, first_fault}
 use Rattle.wv_insn.proofs.reading.decode.Goals as goal
 

@@ -2,7 +2,7 @@ use Rattle.std.proofs.Common.{◌≡◌, ◌++◌, ◌∷◌, [], ◌-◌, ◌+�
 use Rattle.std.proofs.lemmas.Int.{to_z-of_z}
 use Rattle.std.proofs.lemmas.Result.{err_from_is_err_and}
 use Rattle.std.specs.Int.{w32}
-use Rattle.wv_insn.specs.Reading.{signed_at, case_at, times}
+use Rattle.wv_insn.specs.Reading.{signed_at, times}
 use Rattle.wv_insn.proofs.Times.{with_front, goes_on, ends, is_done}
 use Rattle.wv_insn.proofs.reading.offsets.Goals as goal
 

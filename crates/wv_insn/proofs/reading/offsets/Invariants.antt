@@ -1,6 +1,6 @@
 use Rattle.std.proofs.Common.{◌≡◌, ◌-◌}
 use Rattle.std.specs.Int.{w32}
-use Rattle.wv_insn.specs.Reading.{signed_at, case_at, times}
+use Rattle.wv_insn.specs.Reading.{signed_at, times}
 use Rattle.wv_insn.proofs.Times.{with_front}
 use Rattle.wv_insn.proofs.reading.offsets.Given as goal
 

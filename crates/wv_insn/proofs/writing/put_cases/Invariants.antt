@@ -1,7 +1,6 @@
-use Rattle.std.proofs.Common.{◌≡◌, ◌++◌, take, FitsSigned}
+use Rattle.std.proofs.Common.{◌≡◌, ◌++◌, take}
 use Rattle.std.specs.List.{flat_map, AllByRecursion}
-use Rattle.std.specs.Int.{w32}
-use Rattle.wv_insn.specs.Spelling.{signed, case, IsCase}
+use Rattle.wv_insn.specs.Spelling.{case, IsCase}
 use Rattle.wv_insn.proofs.writing.put_cases.Given as goal
 
 abbrev pub invariant-loop-case : goal.invariant-loop-case

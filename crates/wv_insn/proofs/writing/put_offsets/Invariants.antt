@@ -1,7 +1,7 @@
 use Rattle.std.proofs.Common.{◌≡◌, ◌++◌, take, FitsSigned}
 use Rattle.std.specs.List.{flat_map, AllByRecursion}
 use Rattle.std.specs.Int.{w32}
-use Rattle.wv_insn.specs.Spelling.{signed, case, IsCase}
+use Rattle.wv_insn.specs.Spelling.{signed}
 use Rattle.wv_insn.proofs.writing.put_offsets.Given as goal
 
 abbrev pub invariant-loop-offset : goal.invariant-loop-offset
