@@ -12,16 +12,18 @@ use Rattle.wv_insn.specs.declared.raw.Raw.TheVariants as raw
 use Rattle.wv_insn.specs.declared.raw.RawCase.{RawCase}
 use Rattle.wv_insn.specs.Spelling.{padding, targets}
 
+-- one step of reading behind another
 infixl 10 ◌>>=◌
 abbrev pub ◌>>=◌ : {A B : Type 0} → Result A ℕ → (A → Result B ℕ) → Result B ℕ
 (Ok x) >>= f = f x
 (Err left) >>= f = Err left
 
--- what a reader returned, seen by view, is what reading gives, unless memory ran out
+-- the error that a reader returned is the place where reading stops, unless memory ran out
 abbrev pub Fails : {Y : Type 0} → Stop → Result Y ℕ → Type 0
 Fails stop.Memory read = Unit {0}
 Fails (stop.At left) read = read ≡ Err left
 
+-- what a reader returned, seen by view, is what reading gives, unless memory ran out
 abbrev pub Gives : {X Y : Type 0} → (X → Y) → Result X Stop → Result Y ℕ → Type 0
 Gives view (Ok x) read = read ≡ Ok (view x)
 Gives view (Err e) read = Fails e read
@@ -45,6 +47,7 @@ bytes_at count bytes = if nat_lt (length bytes) count then Err 0 else Ok (take c
 abbrev pub unsigned_at : Width → List ℕ → Result (ℕ × List ℕ) ℕ
 unsigned_at w bytes = if nat_lt (length bytes) (byte_len w) then Err 0 else Ok (from_be_bytes w (take (byte_len w) bytes), drop (byte_len w) bytes)
 
+-- a number in two's complement
 abbrev pub signed_at : Width → List ℕ → Result (ℤ × List ℕ) ℕ
 signed_at w bytes = unsigned_at w bytes >>= λ n. Ok (cast_signed w n.0, n.1)
 
@@ -92,48 +95,58 @@ wide_at (op ∷ rest) = of_form (form_of op)
       Ok (raw.Inc slot.0 by.0 true, by.1)
     of_form _ = Err (suc (length rest))
 
--- the operands of each form, behind the opcode op
+-- ---- the operands of each form, behind the opcode op
+
+-- bipush
 unfoldable pub push_byte_at : ℕ → List ℕ → Result (Raw × List ℕ) ℕ
 push_byte_at op bytes = do
   value ← signed_at w8 bytes
   Ok (raw.Push op value.0, value.1)
 
+-- sipush
 unfoldable pub push_short_at : ℕ → List ℕ → Result (Raw × List ℕ) ℕ
 push_short_at op bytes = do
   value ← signed_at w16 bytes
   Ok (raw.Push op value.0, value.1)
 
+-- ldc
 unfoldable pub constant_at : ℕ → List ℕ → Result (Raw × List ℕ) ℕ
 constant_at op bytes = do
   number ← byte_at bytes
   Ok (raw.Load op number.0, number.1)
 
+-- ldc_w and ldc2_w
 unfoldable pub wide_constant_at : ℕ → List ℕ → Result (Raw × List ℕ) ℕ
 wide_constant_at op bytes = do
   number ← unsigned_at w16 bytes
   Ok (raw.Load op number.0, number.1)
 
+-- a load or a store of a local variable by its number
 unfoldable pub local_at : ℕ → List ℕ → Result (Raw × List ℕ) ℕ
 local_at op bytes = do
   slot ← byte_at bytes
   Ok (raw.Local op slot.0 false, slot.1)
 
+-- iinc
 unfoldable pub increment_at : List ℕ → Result (Raw × List ℕ) ℕ
 increment_at bytes = do
   slot ← byte_at bytes
   by ← signed_at w8 slot.1
   Ok (raw.Inc slot.0 by.0 false, by.1)
 
+-- a jump
 unfoldable pub branch_at : ℕ → List ℕ → Result (Raw × List ℕ) ℕ
 branch_at op bytes = do
   offset ← signed_at w16 bytes
   Ok (raw.Branch op offset.0, offset.1)
 
+-- goto_w
 unfoldable pub wide_branch_at : ℕ → List ℕ → Result (Raw × List ℕ) ℕ
 wide_branch_at op bytes = do
   offset ← signed_at w32 bytes
   Ok (raw.Branch op offset.0, offset.1)
 
+-- tableswitch, whose opcode stands at this offset
 unfoldable pub table_at : ℕ → List ℕ → Result (Raw × List ℕ) ℕ
 table_at at bytes = do
   pad ← bytes_at (padding at) bytes
@@ -143,6 +156,7 @@ table_at at bytes = do
   offsets ← times (signed_at w32) (targets low.0 high.0) high.1
   Ok (raw.Table low.0 high.0 other.0 offsets.0, offsets.1)
 
+-- lookupswitch, whose opcode stands at this offset
 unfoldable pub lookup_at : ℕ → List ℕ → Result (Raw × List ℕ) ℕ
 lookup_at at bytes = do
   pad ← bytes_at (padding at) bytes
@@ -151,11 +165,13 @@ lookup_at at bytes = do
   cases ← times case_at count.0 count.1
   Ok (raw.Lookup other.0 cases.0, cases.1)
 
+-- a field instruction, or a call by a pool number alone
 unfoldable pub reference_at : ℕ → List ℕ → Result (Raw × List ℕ) ℕ
 reference_at op bytes = do
   number ← unsigned_at w16 bytes
   Ok (raw.Reference op number.0, number.1)
 
+-- invokeinterface
 unfoldable pub interface_at : List ℕ → Result (Raw × List ℕ) ℕ
 interface_at bytes = do
   number ← unsigned_at w16 bytes
@@ -163,6 +179,7 @@ interface_at bytes = do
   last ← byte_at count.1
   Ok (raw.Interface number.0 count.0 last.0, last.1)
 
+-- invokedynamic
 unfoldable pub dynamic_at : List ℕ → Result (Raw × List ℕ) ℕ
 dynamic_at bytes = do
   number ← unsigned_at w16 bytes
@@ -170,16 +187,19 @@ dynamic_at bytes = do
   second ← zero_at first.1
   Ok (raw.Dynamic number.0, second.1)
 
+-- new, anewarray, checkcast and instanceof
 unfoldable pub class_at : ℕ → List ℕ → Result (Raw × List ℕ) ℕ
 class_at op bytes = do
   number ← unsigned_at w16 bytes
   Ok (raw.Class op number.0, number.1)
 
+-- newarray
 unfoldable pub array_at : List ℕ → Result (Raw × List ℕ) ℕ
 array_at bytes = do
   kind ← byte_at bytes
   Ok (raw.NewArray kind.0, kind.1)
 
+-- multianewarray
 unfoldable pub multi_array_at : List ℕ → Result (Raw × List ℕ) ℕ
 multi_array_at bytes = do
   number ← unsigned_at w16 bytes

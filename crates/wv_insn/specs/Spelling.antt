@@ -10,10 +10,11 @@ use Rattle.wv_insn.specs.declared.raw.Raw.{Raw}
 use Rattle.wv_insn.specs.declared.raw.Raw.TheVariants as raw
 use Rattle.wv_insn.specs.declared.raw.RawCase.{RawCase}
 
--- a number with the high byte first; a signed one in two's complement
+-- a number with the high byte first
 abbrev pub unsigned : Width → ℕ → List ℕ
 unsigned w n = to_be_bytes w n
 
+-- a number in two's complement
 abbrev pub signed : Width → ℤ → List ℕ
 signed w z = to_be_bytes w (cast_unsigned w z)
 
@@ -32,6 +33,7 @@ width_of (Some form.Constant) = w8
 width_of (Some form.WideBranch) = w32
 width_of _ = w16
 
+-- a key and an offset
 abbrev pub case : RawCase → List ℕ
 case c = signed w32 c.key ++ signed w32 c.offset
 
@@ -48,7 +50,7 @@ spelling pad (raw.Branch op offset) = op ∷ signed (width_of (form_of op)) offs
 spelling pad (raw.Table low high other offsets) = tableswitch ∷ pad ++ signed w32 other ++ signed w32 low ++ signed w32 high ++ flat_map (signed w32) offsets
 spelling pad (raw.Lookup other cases) = lookupswitch ∷ pad ++ signed w32 other ++ unsigned w32 (length cases) ++ flat_map case cases
 spelling pad (raw.Reference op number) = op ∷ unsigned w16 number
-spelling pad (raw.Interface number count zero) = invokeinterface ∷ unsigned w16 number ++ count ∷ zero ∷ []
+spelling pad (raw.Interface number count last) = invokeinterface ∷ unsigned w16 number ++ count ∷ last ∷ []
 spelling pad (raw.Dynamic number) = invokedynamic ∷ unsigned w16 number ++ 0 ∷ 0 ∷ []
 spelling pad (raw.Class op number) = op ∷ unsigned w16 number
 spelling pad (raw.NewArray kind) = newarray ∷ kind ∷ []
@@ -74,6 +76,7 @@ IsInstruction (raw.Reference op number) = HasForm op form.Reference
 IsInstruction (raw.Class op number) = HasForm op form.Class
 IsInstruction _ = Unit {0}
 
+-- both numbers of a case are of their type
 abbrev pub IsCase : RawCase → Type 0
 IsCase c = FitsSigned w32 c.key × FitsSigned w32 c.offset
 
@@ -88,7 +91,7 @@ IsTyped (raw.Branch op offset) = (op < 2 ^ 8) × FitsSigned w32 offset
 IsTyped (raw.Table low high other offsets) = FitsSigned w32 low × FitsSigned w32 high × FitsSigned w32 other × AllByRecursion (FitsSigned w32) offsets
 IsTyped (raw.Lookup other cases) = FitsSigned w32 other × AllByRecursion IsCase cases
 IsTyped (raw.Reference op number) = (op < 2 ^ 8) × (number < 2 ^ 16)
-IsTyped (raw.Interface number count zero) = (number < 2 ^ 16) × (count < 2 ^ 8) × (zero < 2 ^ 8)
+IsTyped (raw.Interface number count last) = (number < 2 ^ 16) × (count < 2 ^ 8) × (last < 2 ^ 8)
 IsTyped (raw.Dynamic number) = number < 2 ^ 16
 IsTyped (raw.Class op number) = (op < 2 ^ 8) × (number < 2 ^ 16)
 IsTyped (raw.NewArray kind) = kind < 2 ^ 8
