@@ -312,8 +312,8 @@ fn a_written_class_is_read_again(rt: HostRuntime) -> Result<(), Fail> {
     let bytes = main_class(alloc)?;
     let class = read_class(alloc, bytes.as_slice())?;
     let written = write_class(alloc, &class)?;
-    assert!(rt; written.len() > 180 && bytes.len() > 180);
-    assert_eq!(rt; &written.as_slice()[10..180], &bytes[10..180]);
+    assert!(rt; written.len() > 100 && bytes.len() > 100);
+    assert_eq!(rt; &written.as_slice()[10..100], &bytes[10..100]);
     let again = read_class(alloc, written.as_slice())?;
     assert_eq!(rt; again.methods.len(), class.methods.len());
     let files = files(alloc, mixin_class(alloc, "f", &PRINTS_SEVEN)?, None)?;
