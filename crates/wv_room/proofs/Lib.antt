@@ -1,0 +1,2 @@
+pub mod ElementSizes
+pub mod Fronts

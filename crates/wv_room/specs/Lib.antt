@@ -1,0 +1,4 @@
+pub mod Elements
+pub mod Frames
+pub mod Tables
+pub mod Number
