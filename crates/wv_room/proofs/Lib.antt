@@ -1,2 +1,4 @@
 pub mod ElementSizes
+pub mod FrameSizes
+pub mod TableSizes
 pub mod Fronts

@@ -1,5 +1,5 @@
 -- The sizes that stack map frames can have.
-use Rattle.std.specs.Prelude.{◌≡◌, ◌≢◌, ℕ, suc, ◌+◌, ◌*◌, ◌<◌, ◌≤◌}
+use Rattle.std.specs.Prelude.{◌≡◌, ◌≢◌, ℕ, suc, ◌+◌, ◌*◌, ◌%◌, ◌<◌, ◌≤◌}
 
 -- So many bytes, verification types, lists of them and frames can fill exactly the last number of bytes: an item
 -- is one of its forms in JVM Specification 4.7.4, in which a list of k types is its count and k times a type.
@@ -25,4 +25,4 @@ most_more t l f = 2 * t + 196605 * l + 393216 * f
 pub record FramesTake (t l f more : ℕ) : Type 0 where
   pub most : more ≤ most_more t l f
   pub gap : 1 ≤ l + f → more + 1 ≢ most_more t l f
-  pub even : l + f ≡ 0 → (half : ℕ) × (more ≡ 2 * half)
+  pub even : l + f ≡ 0 → more % 2 ≡ 0

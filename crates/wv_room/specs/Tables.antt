@@ -1,5 +1,5 @@
 -- The sizes that the tables behind a method's code can have.
-use Rattle.std.specs.Prelude.{◌≡◌, ℕ, suc, ◌+◌, ◌*◌, ◌^◌, ◌<◌, ◌≤◌}
+use Rattle.std.specs.Prelude.{◌≡◌, ℕ, suc, ◌+◌, ◌*◌, ◌/◌, ◌%◌, ◌^◌, ◌<◌, ◌≤◌}
 
 -- So many bytes, attributes, tables of attributes and tables of exception ranges can fill exactly the last number
 -- of bytes: an attribute is six bytes and a content of any size, since its name needn't be a known one; a range
@@ -14,4 +14,5 @@ pub data TablesFill : (bytes attributes attribute_tables range_tables : ℕ) →
 pub record TablesTake (a t r more : ℕ) : Type 0 where
   -- an attribute in a table is six bytes or more
   pub gap : a ≡ 0 → 1 ≤ more → 6 ≤ more
-  pub eights : a + t ≡ 0 → (k : ℕ) × (k ≤ 65535 * r) × (more ≡ 8 * k)
+  pub eights : a + t ≡ 0 → more % 8 ≡ 0
+  pub most : a + t ≡ 0 → more / 8 ≤ 65535 * r
