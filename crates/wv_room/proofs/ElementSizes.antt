@@ -9,46 +9,106 @@ pub record Reaches (b v a p n : ℕ) : Type 0 where
 
 after_constant : (v a p more : ℕ) → Takes v a p more → Takes (suc v) a p more
 after_constant v a p more t = record {
-  nothing = λ e. omega arith; one = λ e. omega arith; two = λ e. omega arith; three = λ e. omega arith; four = λ e. omega arith;
-  five = λ e. omega arith; six = λ e. omega arith; seven = λ e. omega arith; nine = λ e. omega arith; ten = λ e. omega arith;
+  nothing = λ e. omega arith;
+  one = λ e. omega arith;
+  two = λ e. omega arith;
+  three = λ e. omega arith;
+  four = λ e. omega arith;
+  five = λ e. omega arith;
+  six = λ e. omega arith;
+  seven = λ e. omega arith;
+  nine = λ e. omega arith;
+  ten = λ e. omega arith;
 }
 
 after_enumerator : (v a p more : ℕ) → Takes v a p more → Takes (suc v) a p (more + 2)
 after_enumerator v a p more t = record {
-  nothing = λ e. omega arith; one = λ e. omega arith; two = λ e. omega arith; three = λ e. omega arith; four = λ e. omega arith;
-  five = λ e. omega arith; six = λ e. omega arith; seven = λ e. omega arith; nine = λ e. omega arith; ten = λ e. omega arith;
+  nothing = λ e. omega arith;
+  one = λ e. omega arith;
+  two = λ e. omega arith;
+  three = λ e. omega arith;
+  four = λ e. omega arith;
+  five = λ e. omega arith;
+  six = λ e. omega arith;
+  seven = λ e. omega arith;
+  nine = λ e. omega arith;
+  ten = λ e. omega arith;
 }
 
 after_nested : (v a p more : ℕ) → Takes v (suc a) p more → Takes (suc v) a p (more + 2)
 after_nested v a p more t = record {
-  nothing = λ e. omega arith; one = λ e. omega arith; two = λ e. omega arith; three = λ e. omega arith; four = λ e. omega arith;
-  five = λ e. omega arith; six = λ e. omega arith; seven = λ e. omega arith; nine = λ e. omega arith; ten = λ e. omega arith;
+  nothing = λ e. omega arith;
+  one = λ e. omega arith;
+  two = λ e. omega arith;
+  three = λ e. omega arith;
+  four = λ e. omega arith;
+  five = λ e. omega arith;
+  six = λ e. omega arith;
+  seven = λ e. omega arith;
+  nine = λ e. omega arith;
+  ten = λ e. omega arith;
 }
 
 after_array : (k v a p more : ℕ) → Takes (k + v) a p more → Takes (suc v) a p (more + 3 * k)
 after_array k v a p more t = record {
-  nothing = λ e. omega arith; one = λ e. omega arith; two = λ e. omega arith; three = λ e. omega arith; four = λ e. omega arith;
-  five = λ e. omega arith; six = λ e. omega arith; seven = λ e. omega arith; nine = λ e. omega arith; ten = λ e. omega arith;
+  nothing = λ e. omega arith;
+  one = λ e. omega arith;
+  two = λ e. omega arith;
+  three = λ e. omega arith;
+  four = λ e. omega arith;
+  five = λ e. omega arith;
+  six = λ e. omega arith;
+  seven = λ e. omega arith;
+  nine = λ e. omega arith;
+  ten = λ e. omega arith;
 }
 
 after_annotation : (k v a p more : ℕ) → Takes (k + v) a p more → Takes v (suc a) p (more + 5 * k)
 after_annotation k v a p more t = record {
-  nothing = λ e. omega arith; one = λ e. omega arith; two = λ e. omega arith; three = λ e. omega arith; four = λ e. omega arith;
-  five = λ e. omega arith; six = λ e. omega arith; seven = λ e. omega arith; nine = λ e. grind arith; ten = λ e. omega arith;
+  nothing = λ e. omega arith;
+  one = λ e. omega arith;
+  two = λ e. omega arith;
+  three = λ e. omega arith;
+  four = λ e. omega arith;
+  five = λ e. omega arith;
+  six = λ e. omega arith;
+  seven = λ e. omega arith;
+  nine = λ e. grind arith;
+  ten = λ e. omega arith;
 }
 
 after_parameter : (k v a p more : ℕ) → Takes v (k + a) p more → Takes v a (suc p) (more + 4 * k)
 after_parameter k v a p more t = record {
-  nothing = λ e. omega arith; one = λ e. omega arith; two = λ e. omega arith; three = λ e. omega arith; four = λ e. omega arith;
-  five = λ e. grind arith; six = λ e. grind arith; seven = λ e. grind arith; nine = λ e. omega arith; ten = λ e. grind arith;
+  nothing = λ e. omega arith;
+  one = λ e. omega arith;
+  two = λ e. omega arith;
+  three = λ e. omega arith;
+  four = λ e. omega arith;
+  five = λ e. grind arith;
+  six = λ e. grind arith;
+  seven = λ e. grind arith;
+  nine = λ e. omega arith;
+  ten = λ e. grind arith;
 }
 
 -- what is spelled fits
 pub reached : {b v a p n : ℕ} → ElementsFill b v a p n → Reaches b v a p n
-reached {b = b} bytes = record { more = 0; size = omega arith; takes = record {
-  nothing = λ e. omega arith; one = λ e. omega arith; two = λ e. omega arith; three = λ e. omega arith; four = λ e. omega arith;
-  five = λ e. omega arith; six = λ e. omega arith; seven = λ e. omega arith; nine = λ e. omega arith; ten = λ e. omega arith;
-} }
+reached {b = b} bytes = record {
+  more = 0;
+  size = omega arith;
+  takes = record {
+    nothing = λ e. omega arith;
+    one = λ e. omega arith;
+    two = λ e. omega arith;
+    three = λ e. omega arith;
+    four = λ e. omega arith;
+    five = λ e. omega arith;
+    six = λ e. omega arith;
+    seven = λ e. omega arith;
+    nine = λ e. omega arith;
+    ten = λ e. omega arith;
+  };
+}
 reached (constant f) = let r = reached f in record { more = r.more; size = omega (arith, r.size); takes = after_constant _ _ _ r.more r.takes }
 reached (enumerator f) = let r = reached f in record { more = r.more + 2; size = omega (arith, r.size); takes = after_enumerator _ _ _ r.more r.takes }
 reached (nested f) = let r = reached f in record { more = r.more + 2; size = omega (arith, r.size); takes = after_nested _ _ _ r.more r.takes }

@@ -75,32 +75,35 @@ pub record Reading (allows : ℕ → Type 0) (width : ℕ) (bytes : List ℕ) (p
 module _ (allows : ℕ → Type 0) (width : ℕ) (bytes : List ℕ) (place least span : ℕ) (r : Reading allows width bytes place least span) where
   pub begun_with : 0 < place → (n : ℕ) × allows n × BeginsWith width (take place bytes) n
   begun_with h =
-    let a = r.begun h in
-    let len : length (take place bytes) ≡ place = omega (arith, length-take place bytes, r.read) in
-    let pos = pow_pos (width - place) in
-    (a.value, a.allowed, between_begins width (take place bytes) a.value (omega (arith, len, r.within))
-      (rw (len, ← r.span_is, ← r.least_is) a.low) (rw (len, ← r.span_is, ← r.least_is) (omega (arith, a.high, r.span_is, pos))))
+      let a = r.begun h in
+      let len : length (take place bytes) ≡ place = omega (arith, length-take place bytes, r.read) in
+      let pos = pow_pos (width - place) in (
+        a.value,
+        a.allowed,
+        between_begins width (take place bytes) a.value (omega (arith, len, r.within))
+            (rw (len, ← r.span_is, ← r.least_is) a.low) (rw (len, ← r.span_is, ← r.least_is) (omega (arith, a.high, r.span_is, pos))),
+      )
 
   module _ (more : place < width) (here : place < length bytes) (byte : get_or bytes place 0 < 256) where
     pub narrowed : span ≡ 256 * (span / 256)
     narrowed =
-      let k : width - place ≡ suc (width - (place + 1)) = omega arith in
-      let e : span ≡ 256 ^ (width - (place + 1)) * 256 = r.span_is ∙ rw (k, pow-suc) refl in
-      let d : 256 ^ (width - (place + 1)) * 256 / 256 ≡ 256 ^ (width - (place + 1)) = mul-div_cancel (256 ^ (width - (place + 1))) {n = 256} (omega arith) in
-      let q : span / 256 ≡ 256 ^ (width - (place + 1)) = rw e d in
-      omega (arith, e, q)
+        let k : width - place ≡ suc (width - (place + 1)) = omega arith in
+        let e : span ≡ 256 ^ (width - (place + 1)) * 256 = r.span_is ∙ rw (k, pow-suc) refl in
+        let d : 256 ^ (width - (place + 1)) * 256 / 256 ≡ 256 ^ (width - (place + 1)) = mul-div_cancel (256 ^ (width - (place + 1))) {n = 256} (omega arith) in
+        let q : span / 256 ≡ 256 ^ (width - (place + 1)) = rw e d in
+        omega (arith, e, q)
 
     next_span : span / 256 ≡ 256 ^ (width - (place + 1))
     next_span =
-      let k : width - place ≡ suc (width - (place + 1)) = omega arith in
-      let e : span ≡ 256 ^ (width - (place + 1)) * 256 = r.span_is ∙ rw (k, pow-suc) refl in
-      omega (arith, e, narrowed)
+        let k : width - place ≡ suc (width - (place + 1)) = omega arith in
+        let e : span ≡ 256 ^ (width - (place + 1)) * 256 = r.span_is ∙ rw (k, pow-suc) refl in
+        omega (arith, e, narrowed)
 
     next_least : least + get_or bytes place 0 * (span / 256) ≡ number_of (take (place + 1) bytes) * (span / 256)
     next_least =
-      let t : number_of (take (suc place) bytes) ≡ number_of (take place bytes) * 256 ^ 1 + (get_or bytes place 0 * 1 + 0) = ap number_of (take-suc bytes place 0 here) ∙ number_of-append (take place bytes) (get_or bytes place 0 ∷ []) in
-      let wider : number_of (take place bytes) * span ≡ number_of (take place bytes) * (256 * (span / 256)) = ap (λ (k : ℕ). number_of (take place bytes) * k) narrowed in
-      rw (add-one, t) (omega (arith, r.least_is, wider))
+        let t : number_of (take (suc place) bytes) ≡ number_of (take place bytes) * 256 ^ 1 + (get_or bytes place 0 * 1 + 0) = ap number_of (take-suc bytes place 0 here) ∙ number_of-append (take place bytes) (get_or bytes place 0 ∷ []) in
+        let wider : number_of (take place bytes) * span ≡ number_of (take place bytes) * (256 * (span / 256)) = ap (λ (k : ℕ). number_of (take place bytes) * k) narrowed in
+        rw (add-one, t) (omega (arith, r.least_is, wider))
 
     pub next_room : least + get_or bytes place 0 * (span / 256) + span / 256 ≤ 4294967296
     next_room = omega (arith, narrowed, r.room, mul-le-mul_left (span / 256) byte)
@@ -120,11 +123,11 @@ module _ (allows : ℕ → Type 0) (width : ℕ) (bytes : List ℕ) (place least
 
     pub stops : (AllowsSome allows (least + get_or bytes place 0 * (span / 256)) (least + get_or bytes place 0 * (span / 256) + span / 256 - 1) → ⊥) → (n : ℕ) → allows n → BeginsWith width (take (place + 1) bytes) n → ⊥
     stops none n allowed front =
-      let b = begins_between width (take (place + 1) bytes) n front in
-      let left : width - length (take (place + 1) bytes) ≡ width - (place + 1) = omega (arith, length-take (place + 1) bytes) in
-      let low : number_of (take (place + 1) bytes) * (span / 256) ≤ n = rw (next_span, ← left) b.0 in
-      let high : n < number_of (take (place + 1) bytes) * (span / 256) + span / 256 = rw (next_span, ← left) b.1 in
-      none (record { value = n; low = omega (arith, next_least, low); high = omega (arith, next_least, high, next_positive); allowed = allowed })
+        let b = begins_between width (take (place + 1) bytes) n front in
+        let left : width - length (take (place + 1) bytes) ≡ width - (place + 1) = omega (arith, length-take (place + 1) bytes) in
+        let low : number_of (take (place + 1) bytes) * (span / 256) ≤ n = rw (next_span, ← left) b.0 in
+        let high : n < number_of (take (place + 1) bytes) * (span / 256) + span / 256 = rw (next_span, ← left) b.1 in
+        none (record { value = n; low = omega (arith, next_least, low); high = omega (arith, next_least, high, next_positive); allowed = allowed })
 
 pub narrow : (width : ℕ) → width ≤ 4 → 256 ^ width ≤ 4294967296
 narrow zero h = omega arith

@@ -2,3 +2,4 @@ pub mod ElementSizes
 pub mod FrameSizes
 pub mod TableSizes
 pub mod Fronts
+pub mod Growth

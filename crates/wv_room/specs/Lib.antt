@@ -2,3 +2,4 @@ pub mod Elements
 pub mod Frames
 pub mod Tables
 pub mod Number
+pub mod Counts

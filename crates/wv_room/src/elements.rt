@@ -29,7 +29,7 @@ impl Elements {
     }
 
     /// The bytes of the items in their least forms.
-    fn least(&self) -> u64
+    pub(crate) fn least(&self) -> u64
         ensures { result ≡ self.now.bytes + 3 * self.now.values + 4 * self.now.annotations + 2 * self.now.parameters }
     {
         u64::from(self.bytes)

@@ -27,7 +27,7 @@ impl Frames {
     }
 
     /// The bytes of the items in their least forms.
-    fn least(&self) -> u64
+    pub(crate) fn least(&self) -> u64
         ensures { result ≡ self.now.bytes + self.now.types + 2 * self.now.lists + self.now.frames }
     {
         u64::from(self.bytes)

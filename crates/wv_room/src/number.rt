@@ -7,10 +7,32 @@ pub trait Allows {
     /// The values that are allowed.
     ghost allows: { Self → ℕ → Type 0 };
 
+    /// Whether this value is allowed.
+    fn allows_value(&self, value: u32) -> bool
+        ensures { IsTrue result ↔ allows self.now value };
+
+    /// Whether no value from this one on is allowed. A type that can't tell says no.
+    fn is_past(&self, _value: u32) -> bool
+        ensures { IsTrue result → (n : ℕ) → _value ≤ n → allows self.now n → ⊥ }
+    {
+        false
+    }
+
     /// Whether some value between these two, both included, is allowed.
     fn allows_some(&self, least: u32, most: u32) -> bool
         requires { least ≤ most }
-        ensures { IsTrue result ↔ AllowsSome (allows self.now) least most };
+        ensures { IsTrue result ↔ AllowsSome (allows self.now) least most }
+    {
+        for value in least..most {
+            if self.allows_value(value) {
+                return true;
+            }
+            if self.is_past(value) {
+                return false;
+            }
+        }
+        self.allows_value(most)
+    }
 }
 
 /// Reads the number in the first `width` bytes, of one to four, the most significant first. A fault is

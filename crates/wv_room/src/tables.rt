@@ -28,7 +28,7 @@ impl Tables {
     }
 
     /// The bytes of the items in their least forms.
-    fn least(&self) -> u64
+    pub(crate) fn least(&self) -> u64
         ensures { result ≡ self.now.bytes + 6 * self.now.attributes + 2 * self.now.attribute_tables + 2 * self.now.range_tables }
     {
         u64::from(self.bytes)

@@ -36,10 +36,10 @@ returns-then-not-allows_some-clause-fault g c = record {
   read = c.loop-place.invariant.read;
   begun = begun_with _ _ _ _ _ _ c.loop-place.invariant;
   stopped = inr (stops _ _ _ _ _ _ c.loop-place.invariant c.loop-place-test.true c.if-place-bytes.false (omega (arith, c.type_inv.bytes c.loop-place.place))
-    (λ some. let no : false ≡ true = c.if-not-allows_some.ensures.1 (rw c.from.ensures some) in absurd cc));
+      (λ some. let no : false ≡ true = c.if-not-allows_some.ensures.1 (rw c.from.ensures some) in absurd cc));
 }
 
 pub loop-place-preserved : goal.loop-place-preserved
 loop-place-preserved g c =
     rw c.from.ensures (next_reading _ _ _ _ _ _ c.loop-place.invariant c.loop-place-test.true c.if-place-bytes.false (omega (arith, c.type_inv.bytes c.loop-place.place))
-      (rw (← c.from.ensures) (c.if-not-allows_some.ensures.0 refl)))
+    (rw (← c.from.ensures) (c.if-not-allows_some.ensures.0 refl)))
