@@ -1,5 +1,5 @@
 -- What fits has a spelling of that size, and what is spelled fits.
-use Rattle.std.proofs.Common.{◌≡◌, ℕ, zero, suc, ◌+◌, ◌*◌, ◌<◌, ◌≤◌, arith, subst, refl}
+use Rattle.std.proofs.Common.{◌≡◌, ℕ, zero, suc, ◌+◌, ◌*◌, arith, subst, refl}
 use Rattle.wv_room.specs.Elements.{ElementsFill, Takes, bytes, constant, enumerator, nested, array, annotation, parameter}
 
 pub record Reaches (b v a p n : ℕ) : Type 0 where

@@ -1,5 +1,5 @@
 -- More items take no less room.
-use Rattle.std.proofs.Common.{◌≡◌, ℕ, ◌+◌, ◌*◌, ◌<◌, ◌≤◌, arith}
+use Rattle.std.proofs.Common.{ℕ, ◌+◌, ◌*◌, ◌<◌, ◌≤◌, arith}
 use Rattle.wv_room.specs.declared.elements.Elements.{Elements}
 use Rattle.wv_room.specs.declared.frames.Frames.{Frames}
 use Rattle.wv_room.specs.declared.tables.Tables.{Tables}

@@ -1,5 +1,5 @@
 -- What is to come, with so many items more.
-use Rattle.std.specs.Prelude.{◌≡◌, ℕ, ◌+◌, ◌*◌}
+use Rattle.std.specs.Prelude.{ℕ, ◌+◌, ◌*◌}
 use Rattle.wv_room.specs.declared.elements.Elements.{Elements}
 use Rattle.wv_room.specs.declared.frames.Frames.{Frames}
 use Rattle.wv_room.specs.declared.tables.Tables.{Tables}

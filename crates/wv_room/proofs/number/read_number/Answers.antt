@@ -1,4 +1,4 @@
-use Rattle.std.proofs.Common.{◌≡◌, ℕ, ◌-◌, ◌≤◌, ◌^◌, arith, refl, inl, inr, true, false}
+use Rattle.std.proofs.Common.{◌≡◌, arith, refl, inl, inr, true, false}
 use Rattle.std.proofs.Math.Nat.{sub-zero}
 use Rattle.wv_room.proofs.Fronts.{begun_with, next_positive, next_reading, stops, narrow}
 use Rattle.wv_room.proofs.number.read_number.Goals as goal

@@ -1,4 +1,4 @@
-use Rattle.std.proofs.Common.{ℕ, ◌<◌, arith}
+use Rattle.std.proofs.Common.{◌<◌, arith}
 use Rattle.std.proofs.lemmas.Bool.{ltb-true}
 use Rattle.wv_room.specs.Counts.{elements_with}
 use Rattle.wv_room.proofs.Growth.{least_elements, past_elements}

@@ -1,4 +1,4 @@
-use Rattle.std.proofs.Common.{ℕ, ◌<◌, arith}
+use Rattle.std.proofs.Common.{◌<◌, arith}
 use Rattle.std.proofs.lemmas.Bool.{ltb-true}
 use Rattle.wv_room.specs.Counts.{tables_with}
 use Rattle.wv_room.proofs.Growth.{least_tables, past_tables}
