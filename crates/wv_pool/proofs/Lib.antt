@@ -1,1 +1,4 @@
 pub mod Loop
+pub mod PlainEntries
+pub mod PlainAgain
+pub mod Slots
