@@ -2,3 +2,5 @@ pub mod Loop
 pub mod PlainEntries
 pub mod PlainAgain
 pub mod Slots
+pub mod TextFaults
+pub mod Faults

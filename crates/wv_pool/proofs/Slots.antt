@@ -30,7 +30,7 @@ pub guard_ok : {A : Type 0} (b : Bool) (d : ℕ) (x y : A) → cond b (Err d) (d
 guard_ok true d x y e = absurd cc
 guard_ok false d x y e = (refl, cc)
 
-then_ok : {A : Type 0} (b : Bool) (d : ℕ) (r : Result A ℕ) (y : A) → cond b (Err d) r ≡ done y → (b ≡ false) × (r ≡ done y)
+pub then_ok : {A : Type 0} (b : Bool) (d : ℕ) (r : Result A ℕ) (y : A) → cond b (Err d) r ≡ done y → (b ≡ false) × (r ≡ done y)
 then_ok true d r y e = absurd cc
 then_ok false d r y e = (refl, e)
 
@@ -89,7 +89,7 @@ text_again name rest is small =
 
 -- ---- entries
 
-behind : (last : Bool) (tag : ℕ) (bytes : List ℕ) → (tag == 1) ≡ false → (last && (tag == 5 || tag == 6)) ≡ false → entry_at last (tag ∷ bytes) ≡ plain_behind tag bytes
+pub behind : (last : Bool) (tag : ℕ) (bytes : List ℕ) → (tag == 1) ≡ false → (last && (tag == 5 || tag == 6)) ≡ false → entry_at last (tag ∷ bytes) ≡ plain_behind tag bytes
 unfolding entry_at
 behind last tag bytes one five = rw (one, five) refl
 
@@ -101,7 +101,7 @@ plain_entry : (last : Bool) (tag : ℕ) (body rest : List ℕ) (e : PoolEntry) �
 plain_entry last tag body rest e one five plain =
     ap (λ (t : List ℕ). entry_at last (t ++ rest)) plain.0 ∙ behind last tag (body ++ rest) one (ap (λ (b : Bool). last && b) five ∙ and_false last) ∙ plain.1 rest
 
-text_entry : (last : Bool) (bytes : List ℕ) → entry_at last (1 ∷ bytes) ≡ text_behind bytes
+pub text_entry : (last : Bool) (bytes : List ℕ) → entry_at last (1 ∷ bytes) ≡ text_behind bytes
 unfolding entry_at
 text_entry last bytes = refl
 
@@ -129,7 +129,7 @@ entry_again last entries.Unusable rest h small = absurd h
 head_is : (a b : ℕ) (x y : List ℕ) → a ∷ x ≡ b ∷ y → a ≡ b
 head_is a b x y e = cc
 
-narrow : (tag : ℕ) (bytes : List ℕ) (e : PoolEntry) (rest : List ℕ) → tag ∷ bytes ≡ entry_bytes e ++ rest → (tag == 5 || tag == 6) ≡ false → is_wide e ≡ false
+pub narrow : (tag : ℕ) (bytes : List ℕ) (e : PoolEntry) (rest : List ℕ) → tag ∷ bytes ≡ entry_bytes e ++ rest → (tag == 5 || tag == 6) ≡ false → is_wide e ≡ false
 narrow tag bytes (entries.Long v) rest e apart = absurd (cc (subst (λ (t : ℕ). (t == 5 || t == 6) ≡ false) (head_is _ _ _ _ e) apart))
 narrow tag bytes (entries.Double v) rest e apart = absurd (cc (subst (λ (t : ℕ). (t == 5 || t == 6) ≡ false) (head_is _ _ _ _ e) apart))
 narrow tag bytes (entries.Utf8 name) rest e apart = refl
