@@ -59,9 +59,13 @@ abbrev pub method_descriptor_of : MethodType → List ℕ
 method_descriptor_of method =
     codes "(" ++ (flat_map descriptor_of method.parameters ++ (codes ")" ++ result_descriptor method.result))
 
+-- a result that has a descriptor
+abbrev pub IsResult : Option FieldType → Type 0
+IsResult result = IfSome result IsFieldType
+
 -- a method's type that has a descriptor
 abbrev pub IsMethodType : MethodType → Type 0
-IsMethodType method = AllByRecursion IsFieldType method.parameters × IfSome method.result IsFieldType
+IsMethodType method = AllByRecursion IsFieldType method.parameters × IsResult method.result
 
 -- the units are a method descriptor
 abbrev pub IsMethodDescriptor : List ℕ → Type 0
@@ -79,3 +83,8 @@ field_words field = if field.dimensions == 0 then element_words field.element el
 -- how many words the arguments take, without `this`
 abbrev pub parameter_words : MethodType → ℕ
 parameter_words method = sum_by field_words method.parameters
+
+-- the units are a method descriptor, whose arguments take so many words
+abbrev pub HasWords : List ℕ → ℕ → Type 0
+HasWords units words =
+    (method : MethodType) × IsMethodType method × (units ≡ method_descriptor_of method) × (words ≡ parameter_words method)

@@ -29,7 +29,10 @@ pub use action::{Action, ActionKind, HookList, Hooks, Spot};
 pub use broken::{Broken, Place};
 pub use bytes::Bytes;
 pub use class_file::{Attribute, Body, ClassFile, ClassVersion, ExceptionRange, Member, PoolEntry};
-pub use descriptor::{ElementType, FieldType, MethodType, Primitive};
+pub use descriptor::{
+    ElementType, FieldType, MethodType, Primitive, is_class_constant, is_field_descriptor,
+    is_method_descriptor, one_descriptor, parameter_words,
+};
 pub use constant::{Const, MemberReference};
 pub use fault::{ClassFault, LimitFault};
 pub use folder::Folder;
