@@ -4,3 +4,4 @@ pub mod PlainAgain
 pub mod Slots
 pub mod TextFaults
 pub mod Faults
+pub mod FactTables

@@ -2,5 +2,8 @@
 #![tactic(auto)]
 
 mod entry;
+mod fact_table;
+mod facts;
 mod layout;
+mod reference;
 mod stop;
