@@ -5,3 +5,4 @@ pub mod Slots
 pub mod TextFaults
 pub mod Faults
 pub mod FactTables
+pub mod Entire

@@ -5,5 +5,9 @@ mod entry;
 mod fact_table;
 mod facts;
 mod layout;
+mod length;
 mod reference;
+mod soundness;
 mod stop;
+
+pub use soundness::first_break;

@@ -123,7 +123,7 @@ fn is_member(pool: &[PoolEntry], number: u16) -> bool
 }
 
 /// Whether the first field behind the tag names what it must.
-fn first_holds(pool: &[PoolEntry], facts: &[Option<Facts>], entry: &PoolEntry) -> bool
+pub(crate) fn first_holds(pool: &[PoolEntry], facts: &[Option<Facts>], entry: &PoolEntry) -> bool
     requires { AreAllFacts pool.now facts.now }
     ensures { IsTrue result ↔ FirstHolds pool.now entry.now }
 {
@@ -143,7 +143,7 @@ fn first_holds(pool: &[PoolEntry], facts: &[Option<Facts>], entry: &PoolEntry) -
 }
 
 /// Whether the second field names what it must.
-fn second_holds(pool: &[PoolEntry], facts: &[Option<Facts>], entry: &PoolEntry) -> bool
+pub(crate) fn second_holds(pool: &[PoolEntry], facts: &[Option<Facts>], entry: &PoolEntry) -> bool
     requires { AreAllFacts pool.now facts.now }
     ensures { IsTrue result ↔ SecondHolds pool.now entry.now }
 {
