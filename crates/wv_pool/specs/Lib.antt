@@ -1,0 +1,5 @@
+pub mod Reading
+pub mod Entries
+pub mod Layout
+pub mod References
+pub mod Facts

@@ -1,0 +1,13 @@
+//! The constant pool of a class file (JVM Specification 4.4).
+#![tactic(auto)]
+
+mod entry;
+mod fact_table;
+mod facts;
+mod layout;
+mod length;
+mod reference;
+mod soundness;
+mod stop;
+
+pub use soundness::first_break;

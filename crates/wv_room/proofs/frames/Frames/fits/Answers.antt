@@ -1,0 +1,13 @@
+use Rattle.std.proofs.Common.{ℕ, ◌-◌, arith, subst}
+use Rattle.wv_room.specs.Frames.{FramesTake}
+use Rattle.wv_room.proofs.FrameSizes.{reached, spelled}
+use Rattle.wv_room.proofs.frames.Frames.fits.Goals as goal
+
+pub returns-then-room-least-clause-filled : goal.returns-then-room-least-clause-filled
+returns-then-room-least-clause-filled c = (λ t. absurd cc, λ f. let r = reached f in absurd (omega (arith, r.size)))
+
+pub returns-clause-filled : goal.returns-clause-filled
+returns-clause-filled c = (
+  λ t. spelled (record { more = c.from-room.result - c.least-least.result; size = omega arith; takes = c.take.ensures.0 t }),
+  λ f. let r = reached f in c.take.ensures.1 (subst (λ (k : ℕ). FramesTake c.args.self.now.types c.args.self.now.lists c.args.self.now.frames k) (omega (arith, r.size)) r.takes),
+)

@@ -1,0 +1,15 @@
+use Rattle.std.proofs.Common.{◌<◌, arith}
+use Rattle.std.proofs.lemmas.Bool.{ltb-true}
+use Rattle.wv_room.specs.Counts.{tables_with}
+use Rattle.wv_room.proofs.Growth.{least_tables, past_tables}
+use Rattle.wv_room.proofs.table_count.TableCountAllows.is_past.Goals as goal
+
+pub returns-in-Some : goal.returns-in-Some
+returns-in-Some c = λ t n le fill.
+    let large : c.args.self.now.room < least_tables (tables_with c.args.self.now.kind c.args.value c.args.self.now.besides) =
+    rw (← c.in-Some.ensures.all) (omega (arith, ltb-true _ _ t, c.least.ensures, c.from.ensures)) in
+    past_tables c.args.self.now.kind c.args.value n c.args.self.now.room c.args.self.now.besides large le fill
+
+pub returns-in-None : goal.returns-in-None
+returns-in-None c = λ t n le fill.
+    past_tables c.args.self.now.kind c.args.value n c.args.self.now.room c.args.self.now.besides (omega (arith, c.in-None.ensures.many)) le fill
