@@ -1,7 +1,7 @@
 -- What the readers give, as functions of the bytes. The grammars beside the types say what it means.
 use Rattle.std.specs.Prelude.{◌≡◌, ℕ, ◌+◌, Bool, ◌&&◌, ◌||◌, ◌==◌, if◌then◌else◌, nat_lt, nat_le, List, [], ◌∷◌, ◌++◌, length, Option, Some, None, option_and_then, option_map}
 use Rattle.std.specs.List.{slice_split, list_all}
-use Rattle.std.specs.Str.{all_ascii_digits}
+use Rattle.std.specs.Char.{is_ascii_digit}
 use Rattle.std.specs.Str.Parse.{digits_value}
 use Rattle.wv_version.specs.declared.identifier.Identifier.{Identifier}
 use Rattle.wv_version.specs.declared.identifier.Identifier.TheVariants.{Number, Word}
@@ -9,7 +9,7 @@ use Rattle.wv_version.specs.Identifier.{is_word_byte}
 
 -- 1 to 18 digits
 abbrev pub is_numeral : List ℕ → Bool
-is_numeral text = (nat_lt 0 (length text) && nat_lt (length text) 19) && all_ascii_digits text
+is_numeral text = (nat_lt 0 (length text) && nat_lt (length text) 19) && list_all is_ascii_digit text
 
 abbrev pub number_of : List ℕ → Option ℕ
 number_of text = if is_numeral text then Some (digits_value 10 text) else None

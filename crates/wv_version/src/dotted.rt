@@ -80,7 +80,7 @@ fn number_at(numbers: &[u64], place: usize) -> u64
 
 /// Whether a build part is one or more letters, digits, dashes and dots, where there is one.
 fn is_build_part(part: Option<&str>) -> bool
-    ensures { MatchOption (option_copied part) (IsTrue result) (λ part. result ≡ is_build part) }
+    ensures { MatchOption (option_copied part.entry) (IsTrue result) (λ part. result ≡ is_build part) }
 {
     part.is_none_or(|part| is_build(part))
 }

@@ -1,6 +1,6 @@
 //! Decimal numbers.
 ghost use Rattle.std.specs.Prelude.{◌≡◌, IfOk};
-ghost use Rattle.wv_version.specs.Reading.{number_of, numbers_of};
+ghost use Rattle.wv_version.specs.Reading.{is_numeral, number_of, numbers_of};
 
 use crate::cut::cut;
 use std::alloc::Global;
@@ -13,18 +13,19 @@ const MOST_DIGITS: usize = 18;
 pub(crate) fn read_number(text: &str) -> Option<u64>
     ensures { result ≡ number_of text.now }
 {
-    let digits = text.as_bytes();
-    if digits.is_empty() || digits.len() > MOST_DIGITS {
+    if !is_numeral(text) {
         return None;
     }
-    let mut number = 0u64;
-    for digit in digits {
-        if !digit.is_ascii_digit() {
-            return None;
-        }
-        number = number * 10 + u64::from(*digit - b'0');
-    }
-    Some(number)
+    text.parse().ok()
+}
+
+/// Whether the text is 1 to 18 decimal digits.
+fn is_numeral(text: &str) -> bool
+    ensures { result ≡ is_numeral text.now }
+{
+    !text.is_empty()
+        && text.len() <= MOST_DIGITS
+        && text.as_bytes().iter().all(|byte| byte.is_ascii_digit())
 }
 
 /// The numbers between dots.

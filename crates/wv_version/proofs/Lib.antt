@@ -1,0 +1,4 @@
+pub mod Cutting
+pub mod Pieces
+pub mod Numerals
+pub mod FirstLower
