@@ -2,3 +2,6 @@ pub mod Cutting
 pub mod Pieces
 pub mod Numerals
 pub mod FirstLower
+pub mod Identifiers
+pub mod Dotting
+pub mod Ordering

@@ -16,7 +16,7 @@ digit c h = grind (arith, nat_tests)
 digit_back : (c : ℕ) → digit_value c < 10 → is_ascii_digit c ≡ true
 digit_back c h = let range = digit_from_value c h in grind (arith, nat_tests)
 
-both : (a b : Bool) → (a && b) ≡ true → (a ≡ true) × (b ≡ true)
+pub both : (a b : Bool) → (a && b) ≡ true → (a ≡ true) × (b ≡ true)
 both true b h = (refl, h)
 both false b h = cc
 

@@ -1,11 +1,11 @@
 -- Texts of pieces between dots.
-use Rattle.std.proofs.Common.{◌≡◌, ◌≢◌, ℕ, ◌+◌, ◌<◌, ◌==◌, List, [], ◌∷◌, ◌++◌, length, Option, Some, None, option_map, option_and_then, refl, ap, sym, ◌∙◌, arith, rules}
+use Rattle.std.proofs.Common.{◌≡◌, ◌≢◌, ℕ, ◌+◌, ◌<◌, ◌==◌, List, [], ◌∷◌, ◌++◌, length, Option, Some, None, option_map, option_and_then, refl, ap, sym, ◌∙◌, arith, append_assoc}
 use Rattle.std.specs.List.{AllByRecursion, join_with_byte}
 use Rattle.std.proofs.lemmas.List.Splits.{join_with_byte-slice_split, length-slice_split}
-use Rattle.wv_version.specs.Cut.{IsFree}
+use Rattle.wv_version.specs.Cut.{IsFree, IsCut}
 use Rattle.wv_version.specs.Dots.{SpellsEach, IsDotJoined}
-use Rattle.wv_version.specs.Reading.{each_of, parts}
-use Rattle.wv_version.proofs.Cutting.{parts-join, IsFree-join}
+use Rattle.wv_version.specs.Reading.{each_of, parts, parts_of}
+use Rattle.wv_version.proofs.Cutting.{parts-join, parts-cut, IsFree-join}
 
 -- `read` gives a value just where the text spells it
 pub record Reads {A : Type 0} (read : List ℕ → Option A) (Spells : List ℕ → A → Type 0) : Type 0 where
@@ -62,3 +62,24 @@ dots-only read Spells reads free text xs dots =
 abbrev pub text_left : Option (List ℕ) → ℕ
 text_left None = 0
 text_left (Some text) = length text + 1
+
+-- a loop over the parts has read `front`, and then a part that gives nothing
+pub each_stop : {A : Type 0} (read : List ℕ → Option A) (front : List A) (text piece : List ℕ) (after : Option (List ℕ)) (whole : Option (List A)) → IsCut 46 text piece after → read piece ≡ None → option_map (λ more. front ++ more) (each_of read (parts 46 text)) ≡ whole → whole ≡ None
+each_stop {A} read front text piece after whole cut none so_far =
+    let first : each_of read (parts 46 text) ≡ None = ap (each_of read) (parts-cut 46 text piece after cut) ∙ stopped (each_of read (parts_of 46 after)) none in
+    sym so_far ∙ ap (option_map (λ more. front ++ more)) first
+  where
+    stopped : {A : Type 0} {first : Option A} (rest : Option (List A)) → first ≡ None → option_and_then (λ x. option_map (λ xs. x ∷ xs) rest) first ≡ None
+    stopped rest none = rw none refl
+
+-- or a part that gives a value
+pub each_step : {A : Type 0} (read : List ℕ → Option A) (front : List A) (text piece : List ℕ) (after : Option (List ℕ)) (whole : Option (List A)) (x : A) → IsCut 46 text piece after → read piece ≡ Some x → option_map (λ more. front ++ more) (each_of read (parts 46 text)) ≡ whole → option_map (λ more. (front ++ x ∷ []) ++ more) (each_of read (parts_of 46 after)) ≡ whole
+each_step read front text piece after whole x cut some so_far =
+    let first : each_of read (parts 46 text) ≡ option_map (λ xs. x ∷ xs) (each_of read (parts_of 46 after)) = ap (each_of read) (parts-cut 46 text piece after cut) ∙ stepped (each_of read (parts_of 46 after)) x some in
+    moved front x (each_of read (parts_of 46 after)) ∙ sym (ap (option_map (λ more. front ++ more)) first) ∙ so_far
+  where
+    stepped : {A : Type 0} {first : Option A} (rest : Option (List A)) (x : A) → first ≡ Some x → option_and_then (λ x. option_map (λ xs. x ∷ xs) rest) first ≡ option_map (λ xs. x ∷ xs) rest
+    stepped rest x some = rw some refl
+    moved : {A : Type 0} (front : List A) (x : A) (rest : Option (List A)) → option_map (λ more. (front ++ x ∷ []) ++ more) rest ≡ option_map (λ more. front ++ more) (option_map (λ xs. x ∷ xs) rest)
+    moved front x None = refl
+    moved front x (Some rest) = ap Some (append_assoc front (x ∷ []) rest)
