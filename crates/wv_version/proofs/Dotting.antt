@@ -27,13 +27,13 @@ pub IsFree-numbers : (mark : ℕ) → mark < 46 → (text : List ℕ) (numbers :
 IsFree-numbers mark low = IsFree-dots mark IsNumeral (IsFree-numeral mark (omega arith)) (λ same. omega arith)
 
 free_pre_release : (text : List ℕ) (xs : List Identifier) → IsPreRelease text xs → IsFree 43 text
-free_pre_release text [] h = rw h tt
-free_pre_release text (x ∷ xs) h = IsFree-dots 43 IsIdentifier (IsFree-identifier 43 (lit< tt) refl) (λ same. cc) text (x ∷ xs) h
+free_pre_release text [] h = subst (IsFree 43) (sym h) tt
+free_pre_release text (x ∷ xs) h = IsFree-dots 43 IsIdentifier (IsFree-identifier 43 (lit< tt) refl) (λ same. absurd (omega arith)) text (x ∷ xs) h
 
 free_led : (part : Option (List ℕ)) (xs : Option (List Identifier)) → IsPreReleasePart part xs → IsFree 43 (led_by 45 part)
 free_led None xs h = tt
 free_led (Some text) None h = absurd h
-free_led (Some text) (Some xs) h = ((λ same. cc), free_pre_release text xs h)
+free_led (Some text) (Some xs) h = ((λ same. absurd (omega arith)), free_pre_release text xs h)
 
 pub build_cut : (text : List ℕ) (d : Dotted) (h : IsDotted text d) → IsCut 43 text (h.numbers ++ led_by 45 h.pre_release) h.build
 build_cut text d h = record {
@@ -85,12 +85,12 @@ is_build-only text h =
 
 -- what the test of a build part says
 pub build-found : (build : Option (List ℕ)) (r : Bool) → MatchOption build (IsTrue r) (λ part. r ≡ is_build part) → r ≡ true → IfSome build IsBuild
-build-found None r h yes' = tt
-build-found (Some part) r h yes' = is_build-found part (sym h ∙ yes')
+build-found None r h passes = tt
+build-found (Some part) r h passes = is_build-found part (sym h ∙ passes)
 
 pub build-only : (build : Option (List ℕ)) (r : Bool) → MatchOption build (IsTrue r) (λ part. r ≡ is_build part) → r ≡ false → IfSome build IsBuild → ⊥
-build-only None r h no' of_build = let clash : true ≡ false = sym h ∙ no' in cc
-build-only (Some part) r h no' of_build = let clash : true ≡ false = sym (is_build-only part of_build) ∙ (sym h ∙ no') in cc
+build-only None r h fails of_build = let clash : true ≡ false = sym h ∙ fails in cc
+build-only (Some part) r h fails of_build = let clash : true ≡ false = sym (is_build-only part of_build) ∙ (sym h ∙ fails) in cc
 
 -- an option isn't both
 pub some_none : {A : Type 0} {o : Option A} {x : A} → o ≡ Some x → o ≡ None → ⊥

@@ -1,9 +1,9 @@
 -- Identifiers: their texts and their order.
-use Rattle.std.proofs.Common.{◌≡◌, ◌≢◌, ◌⊎◌, inl, inr, ℕ, zero, suc, ◌+◌, ◌<◌, ◌≤◌, ◌&&◌, ◌||◌, ◌==◌, Bool, true, false, cond, IsTrue, List, [], ◌∷◌, length, nat_lt, get_or, slice_get, Option, Some, None, refl, ap, sym, ◌∙◌, subst, arith, lit<, min}
+use Rattle.std.proofs.Common.{◌≡◌, ◌≢◌, ◌⊎◌, inl, inr, ℕ, zero, suc, ◌+◌, ◌<◌, ◌≤◌, ◌&&◌, ◌||◌, ◌==◌, Bool, true, false, cond, IsTrue, List, [], ◌∷◌, ◌++◌, length, length-append, nat_lt, get_or, slice_get, Option, Some, None, refl, ap, sym, ◌∙◌, subst, arith, lit<, min}
 use Rattle.std.specs.List.{AllByRecursion, list_all}
 use Rattle.std.specs.declared.cmp.Ordering.{Ordering}
 use Rattle.std.specs.declared.cmp.Ordering.TheVariants.{Less, Equal, Greater}
-use Rattle.std.specs.Ordering.{MatchOrdering, nat_cmp}
+use Rattle.std.specs.Ordering.{MatchOrdering, nat_cmp, is_ne}
 use Rattle.std.specs.Cmp.Lexicographic.{slice_cmp}
 use Rattle.std.specs.Str.Parse.{digits_value}
 use Rattle.std.proofs.lemmas.Bool.Decides.{nat_tests}
@@ -141,6 +141,27 @@ lists_differ xs ys n x y Less same at_x at_y h other = record { place = n; befor
 lists_differ xs ys n x y Equal same at_x at_y h other = absurd (other refl)
 lists_differ xs ys n x y Greater same at_x at_y h other = record { place = n; before = λ i below. sym (same i below); lower = rw (at_x, at_y) h }
 
+pub equal_from_test : (order : Ordering) → is_ne order ≡ false → order ≡ Equal
+equal_from_test Less h = cc
+equal_from_test Equal h = refl
+equal_from_test Greater h = cc
+
+pub not_equal_from_test : (order : Ordering) → is_ne order ≡ true → order ≡ Equal → ⊥
+not_equal_from_test order h e = let clash : true ≡ false = sym h ∙ ap is_ne e in cc
+
+-- the lists agree before n and at n
+pub lists_more : (xs ys : List Identifier) (n m : ℕ) (x y : Identifier) (order : Ordering) → ((i : ℕ) → i < n → slice_get xs i ≡ slice_get ys i) → slice_get xs n ≡ Some x → slice_get ys n ≡ Some y → MatchOrdering order (IsIdentifierLower x y) (x ≡ y) (IsIdentifierLower y x) → order ≡ Equal → m ≡ n + 1 → (i : ℕ) → i < m → slice_get xs i ≡ slice_get ys i
+lists_more xs ys n m x y order same at_x at_y h equal long i below = elim (nat_total i n) [
+    inl low ↦ same i low
+  | inr k ↦ elim k [
+      inl here ↦ rw here (at_x ∙ ap Some (tie order h equal) ∙ sym at_y)
+    | inr high ↦ absurd (omega arith) ] ]
+  where
+    tie : (order : Ordering) → MatchOrdering order (IsIdentifierLower x y) (x ≡ y) (IsIdentifierLower y x) → order ≡ Equal → x ≡ y
+    tie Less h e = cc
+    tie Equal h e = h
+    tie Greater h e = cc
+
 lists_same : (xs ys : List Identifier) → length xs ≡ length ys → ((i : ℕ) → i < length xs → slice_get xs i ≡ slice_get ys i) → xs ≡ ys
 lists_same [] [] long same = refl
 lists_same [] (y ∷ ys) long same = absurd (omega arith)
@@ -163,3 +184,6 @@ lists_end xs ys n order ended same is = ends order (ranked (length xs) (length y
     ends Less h = shorter xs ys h (λ i below. same i (omega arith))
     ends Equal h = lists_same xs ys h (λ i below. same i (omega arith))
     ends Greater h = shorter ys xs h (λ i below. sym (same i (omega arith)))
+
+pub length-push : {A : Type 0} (xs : List A) (x : A) → length (xs ++ x ∷ []) ≡ length xs + 1
+length-push xs x = length-append xs (x ∷ [])

@@ -5,3 +5,4 @@ pub mod FirstLower
 pub mod Identifiers
 pub mod Dotting
 pub mod Ordering
+pub mod Edges
