@@ -114,3 +114,8 @@ dotted_same text d e g h =
     let numbers : Some d.numbers ≡ Some e.numbers = sym (numbers_of-only g.numbers d.numbers g.of_numbers) ∙ numbers_of-only g.numbers e.numbers other.of_numbers in
     let numbers_same : d.numbers ≡ e.numbers = cc in
     same_dotted d.numbers e.numbers d.pre_release e.pre_release numbers_same (same_pre g.pre_release d.pre_release e.pre_release g.of_pre_release other.of_pre_release)
+
+-- an identifier list that nothing reads isn't spelled
+pub pre_release-none : (text : List ℕ) (p : Option (List Identifier)) → pre_release_of text ≡ None → IsPreReleasePart (Some text) p → ⊥
+pre_release-none text None none h = h
+pre_release-none text (Some xs) none h = some_none (pre_release_of-only text xs h) none

@@ -6,3 +6,5 @@ pub mod Identifiers
 pub mod Dotting
 pub mod Ordering
 pub mod Edges
+pub mod Signs
+pub mod Spaces
