@@ -96,7 +96,17 @@ begins_between v front last at_most low i inside = elim at_most [
         let ends : slice_index (front ++ last ∷ []) (length front) ≡ last = reads_last front last in
         let next : slice_index (front ++ (last + 1) ∷ []) (length front) ≡ last + 1 = reads_last front (last + 1) in
         elim (nat_total below.place above.place) [
-            inl sooner ↦ omega (arith, above.before below.place sooner, below.lower, fronts below.place)
+            inl sooner ↦ omega (arith, above.before below.place sooner, below.lower, fronts below.place (omega arith))
           | inr k ↦ elim k [
-              inl here ↦ ?
-            | inr later ↦ omega (arith, below.before above.place later, above.lower, ?) ] ]
+              inl here ↦
+                let low_there : slice_index v.numbers above.place < slice_index (front ++ (last + 1) ∷ []) above.place = subst (λ i. slice_index v.numbers i < slice_index (front ++ (last + 1) ∷ []) i) here below.lower in
+                elim (nat_total above.place (length front)) [
+                    inl inner ↦ omega (arith, above.lower, low_there, fronts above.place inner)
+                  | inr j ↦ elim j [
+                      inl end ↦ omega (arith, above.lower, low_there, rw (← end) at ends, rw (← end) at next)
+                    | inr past ↦ omega arith ] ]
+            | inr later ↦ elim (nat_total above.place (length front)) [
+                inl inner ↦ omega (arith, above.lower, below.before above.place later, fronts above.place inner)
+              | inr j ↦ elim j [
+                  inl end ↦ omega (arith, below.lower, reads_past front (last + 1) below.place (omega arith))
+                | inr past ↦ omega arith ] ] ] ]

@@ -68,13 +68,22 @@ not_equal_led text more led e =
     let high : led.first ≤ 57 = led.high in
     omega arith
 
+heads_same : (x y : ℕ) (xs ys : List ℕ) → x ∷ xs ≡ y ∷ ys → x ≡ y
+heads_same x y xs ys e = cc
+
 -- behind the longest sign stands what stands behind any sign before a version
 unsign : (r s : Relation) (a b : List ℕ) → sign r ++ a ≡ sign s ++ b → IsWholeSign r a → IsDigitLed b → a ≡ b
 unsign Below AtMost a b e whole led = let rest : a ≡ 61 ∷ b = cc in absurd (whole b rest)
 unsign AtMost Below a b e whole led = let rest : b ≡ 61 ∷ a = cc in absurd (not_equal_led b a led rest)
 unsign Above AtLeast a b e whole led = let rest : a ≡ 61 ∷ b = cc in absurd (whole b rest)
 unsign AtLeast Above a b e whole led = let rest : b ≡ 61 ∷ a = cc in absurd (not_equal_led b a led rest)
-unsign r s a b e whole led = cc
+unsign Below Below a b e whole led = cc
+unsign AtMost AtMost a b e whole led = cc
+unsign Above Above a b e whole led = cc
+unsign AtLeast AtLeast a b e whole led = cc
+unsign Caret Caret a b e whole led = cc
+unsign Tilde Tilde a b e whole led = cc
+unsign r s a b e whole led = absurd (omega (arith, heads_same _ _ _ _ e))
 
 -- no term begins with a sign and goes on with no dotted version
 pub signed-none : (text rest : List ℕ) (relation : Relation) → IsSigned text relation rest → ((d : Dotted) → IsDotted rest d → ⊥) → (t : Term) → IsTerm text t → ⊥

@@ -70,13 +70,16 @@ free_onto : (mark c : ℕ) (pieces : List (List ℕ)) → c ≢ mark → AllByRe
 free_onto mark c [] other h = ((other, tt), tt)
 free_onto mark c (piece ∷ pieces) other h = ((other, h.0), h.1)
 
+free_step : (mark c : ℕ) (more : List (List ℕ)) (b : Bool) → (c == mark) ≡ b → AllByRecursion (IsFree mark) more → AllByRecursion (IsFree mark) (cond b ([] ∷ more) (onto_first c more))
+free_step mark c more true is h = (tt, h)
+free_step mark c more false is h = free_onto mark c more (differ c mark is) h
+  where
+    differ : (c mark : ℕ) → (c == mark) ≡ false → c ≢ mark
+    differ c mark is = grind (arith, nat_tests)
+
 parts_free : (mark : ℕ) (text : List ℕ) → AllByRecursion (IsFree mark) (parts mark text)
 parts_free mark [] = (tt, tt)
-parts_free mark (c ∷ text) = step (c == mark) refl
-  where
-    step : (b : Bool) → (c == mark) ≡ b → AllByRecursion (IsFree mark) (cond b ([] ∷ parts mark text) (onto_first c (parts mark text)))
-    step true is = (tt, parts_free mark text)
-    step false is = free_onto mark c (parts mark text) (λ same. grind (arith, nat_tests)) (parts_free mark text)
+parts_free mark (c ∷ text) = free_step mark c (parts mark text) (c == mark) refl (parts_free mark text)
 
 -- every part is done
 pub read_to-end : (text : List ℕ) (terms : List Term) → IsReadTo text None terms → IsPredicate text (record { terms = terms })
@@ -100,3 +103,14 @@ read_to-none text t piece after terms so_far cut some none p h =
   where
     whole : words h.pieces ≡ words so_far.done ++ piece ∷ words (parts_of 32 after)
     whole = words_same text h.pieces h.joined h.free ∙ ap words (split_more text t piece after so_far.done cut so_far.split) ∙ filter-append (λ piece. nat_lt 0 (length piece)) so_far.done (piece ∷ parts_of 32 after) ∙ ap (λ ws. words so_far.done ++ ws) (word piece (parts_of 32 after) some)
+
+-- what the test of a length tells
+pub some-from_test : (piece : List ℕ) (b : Bool) → b ≡ (length piece == 0) → b ≡ false → 0 < length piece
+some-from_test piece b is other = grind (arith, nat_tests)
+
+pub empty-from_test : (piece : List ℕ) (b : Bool) → b ≡ (length piece == 0) → b ≡ true → piece ≡ []
+empty-from_test [] b is empty = refl
+empty-from_test (x ∷ piece) b is empty = absurd (full (x ∷ piece) (omega arith) (sym is ∙ empty))
+  where
+    full : (piece : List ℕ) → 0 < length piece → (length piece == 0) ≡ true → ⊥
+    full piece some none = grind (arith, nat_tests)
