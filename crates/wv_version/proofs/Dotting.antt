@@ -1,21 +1,19 @@
 -- The dotted form: where its parts stand, and that they are all of it.
-use Rattle.std.proofs.Common.{◌≡◌, ◌≢◌, ◌⊎◌, inl, inr, ℕ, ◌<◌, ◌≤◌, ◌||◌, ◌==◌, Bool, true, false, IsTrue, List, [], ◌∷◌, ◌++◌, length, nat_lt, Option, Some, None, IfSome, MatchOption, refl, ap, sym, ◌∙◌, subst, arith, lit<, append_assoc}
-use Rattle.std.specs.List.{AllByRecursion, list_all, join_with_byte}
-use Rattle.std.specs.Str.Parse.{AllDigits}
+use Rattle.std.proofs.Common.{◌≡◌, ℕ, ◌<◌, ◌||◌, ◌==◌, Bool, true, false, IsTrue, List, [], ◌∷◌, ◌++◌, length, nat_lt, Option, Some, None, IfSome, MatchOption, refl, ap, sym, ◌∙◌, subst, arith, lit<}
+use Rattle.std.specs.List.{list_all}
 use Rattle.std.proofs.lemmas.Bool.Decides.{nat_tests}
-use Rattle.std.proofs.lemmas.Str.Parse.{digit_from_value}
 use Rattle.wv_version.specs.declared.dotted.Dotted.{Dotted}
 use Rattle.wv_version.specs.declared.identifier.Identifier.{Identifier}
 use Rattle.wv_version.specs.Cut.{led_by, IsFree, IsCut}
 use Rattle.wv_version.specs.Numeral.{IsNumeral}
-use Rattle.wv_version.specs.Dots.{SpellsEach, IsDotJoined}
+use Rattle.wv_version.specs.Dots.{IsDotJoined}
 use Rattle.wv_version.specs.Identifier.{is_word_byte, IsIdentifier, IsPreRelease}
 use Rattle.wv_version.specs.Dotted.{IsDotted, IsBuild, IsPreReleasePart}
 use Rattle.wv_version.specs.Reading.{number_of, numbers_of, pre_release_of, is_build}
 use Rattle.wv_version.proofs.Cutting.{cuts_same, IsFree-append}
 use Rattle.wv_version.proofs.Pieces.{dots-found, dots-only, IsFree-dots}
 use Rattle.wv_version.proofs.Numerals.{reads_numbers, IsFree-numeral, both}
-use Rattle.wv_version.proofs.Identifiers.{IsFree-identifier, pre_release_of-found, pre_release_of-only, each-from_test, test-from_each}
+use Rattle.wv_version.proofs.Identifiers.{IsFree-identifier, pre_release_of-only, each-from_test, test-from_each}
 
 -- the parts of a text spell the parts of a version
 pub record IsParts (numbers : List ℕ) (pre_release build : Option (List ℕ)) (d : Dotted) : Type 0 where
@@ -38,7 +36,7 @@ free_led (Some text) (Some xs) h = ((λ same. absurd (omega arith)), free_pre_re
 pub build_cut : (text : List ℕ) (d : Dotted) (h : IsDotted text d) → IsCut 43 text (h.numbers ++ led_by 45 h.pre_release) h.build
 build_cut text d h = record {
   whole = h.whole;
-  free = IsFree-append 43 h.numbers (led_by 45 h.pre_release) (IsFree-numbers 43 (lit< tt) h.numbers d.numbers h.of_numbers) (free_led h.pre_release d.pre_release h.of_pre_release)
+  free = IsFree-append 43 h.numbers (led_by 45 h.pre_release) (IsFree-numbers 43 (lit< tt) h.numbers d.numbers h.of_numbers) (free_led h.pre_release d.pre_release h.of_pre_release);
 }
 
 pub pre_release_cut : (text : List ℕ) (d : Dotted) (h : IsDotted text d) → IsCut 45 (h.numbers ++ led_by 45 h.pre_release) h.numbers h.pre_release
@@ -53,7 +51,7 @@ parts_of_dotted text front numbers pre_release build d at_build at_pre h =
     record {
       of_numbers = subst (λ part. IsDotJoined IsNumeral part d.numbers) inner.0 h.of_numbers;
       of_pre_release = subst (λ part. IsPreReleasePart part d.pre_release) inner.1 h.of_pre_release;
-      of_build = subst (λ part. IfSome part IsBuild) outer.1 h.of_build
+      of_build = subst (λ part. IfSome part IsBuild) outer.1 h.of_build;
     }
 
 pub dotted_of_parts : (text front numbers : List ℕ) (pre_release build : Option (List ℕ)) (d : Dotted) → IsCut 43 text front build → IsCut 45 front numbers pre_release → IsParts numbers pre_release build d → IsDotted text d
@@ -64,7 +62,7 @@ dotted_of_parts text front numbers pre_release build d at_build at_pre parts = r
   whole = at_build.whole ∙ ap (λ xs. xs ++ led_by 43 build) at_pre.whole;
   of_numbers = parts.of_numbers;
   of_pre_release = parts.of_pre_release;
-  of_build = parts.of_build
+  of_build = parts.of_build;
 }
 
 pub numbers_of-found : (text numbers : List ℕ) → numbers_of text ≡ Some numbers → IsDotJoined IsNumeral text numbers

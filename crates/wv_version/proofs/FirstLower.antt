@@ -1,5 +1,5 @@
 -- The order by the first place of difference.
-use Rattle.std.proofs.Common.{◌≡◌, ◌⊎◌, inl, inr, ℕ, zero, suc, ◌+◌, ◌<◌, ◌≤◌, List, [], ◌∷◌, ◌++◌, length, Option, Some, None, slice_get, refl, ap, sym, ◌∙◌, subst, arith, add-one}
+use Rattle.std.proofs.Common.{◌≡◌, ◌⊎◌, inl, inr, ℕ, zero, suc, ◌<◌, List, [], ◌∷◌, Option, Some, None, slice_get, refl, ap, sym, ◌∙◌, subst, arith}
 use Rattle.std.specs.declared.cmp.Ordering.{Ordering}
 use Rattle.std.specs.declared.cmp.Ordering.TheVariants.{Less, Equal, Greater}
 use Rattle.std.specs.Ordering.{MatchOrdering, nat_cmp, ordering_then}
@@ -25,37 +25,38 @@ IsFirstLower-apart Lower strict f g same h =
 
 pub IsFirstLower-step : {A : Type 0} (Lower : A → A → Type 0) → IsStrict Lower → (f g h : ℕ → A) → IsFirstLower Lower f g → IsFirstLower Lower g h → IsFirstLower Lower f h
 IsFirstLower-step Lower strict f g h a b = elim (which a.place b.place) [
-    inl low ↦ record {
+  | inl low ↦ record {
+    place = a.place;
+    before = λ i below. a.before i below ∙ b.before i (omega arith);
+    lower = subst (λ x. Lower (f a.place) x) (b.before a.place low) a.lower;
+  }
+  | inr k ↦ elim k [
+    | inl same ↦ record {
       place = a.place;
       before = λ i below. a.before i below ∙ b.before i (omega arith);
-      lower = subst (λ x. Lower (f a.place) x) (b.before a.place low) a.lower
+      lower = strict.step (f a.place) (g a.place) (h a.place) a.lower (subst (λ n. Lower (g n) (h n)) (sym same) b.lower);
     }
-  | inr k ↦ elim k [
-      inl same ↦ record {
-        place = a.place;
-        before = λ i below. a.before i below ∙ b.before i (omega arith);
-        lower = strict.step (f a.place) (g a.place) (h a.place) a.lower (subst (λ n. Lower (g n) (h n)) (sym same) b.lower)
-      }
     | inr low ↦ record {
-        place = b.place;
-        before = λ i below. a.before i (omega arith) ∙ b.before i below;
-        lower = subst (λ x. Lower x (h b.place)) (sym (a.before b.place low)) b.lower
-      }
-  ] ]
+      place = b.place;
+      before = λ i below. a.before i (omega arith) ∙ b.before i below;
+      lower = subst (λ x. Lower x (h b.place)) (sym (a.before b.place low)) b.lower;
+    }
+  ]
+]
 
 -- what agrees everywhere may stand for the other
 pub IsFirstLower-left : {A : Type 0} (Lower : A → A → Type 0) (f g h : ℕ → A) → ((i : ℕ) → f i ≡ g i) → IsFirstLower Lower g h → IsFirstLower Lower f h
 IsFirstLower-left Lower f g h same a = record {
   place = a.place;
   before = λ i below. same i ∙ a.before i below;
-  lower = subst (λ x. Lower x (h a.place)) (sym (same a.place)) a.lower
+  lower = subst (λ x. Lower x (h a.place)) (sym (same a.place)) a.lower;
 }
 
 pub IsFirstLower-right : {A : Type 0} (Lower : A → A → Type 0) (f g h : ℕ → A) → ((i : ℕ) → g i ≡ h i) → IsFirstLower Lower f g → IsFirstLower Lower f h
 IsFirstLower-right Lower f g h same a = record {
   place = a.place;
   before = λ i below. a.before i below ∙ same i;
-  lower = subst (λ x. Lower (f a.place) x) (same a.place) a.lower
+  lower = subst (λ x. Lower (f a.place) x) (same a.place) a.lower;
 }
 
 -- one place further on
@@ -63,7 +64,7 @@ pub IsFirstLower-more : {A : Type 0} (Lower : A → A → Type 0) (f g : ℕ →
 IsFirstLower-more Lower f g first a = record {
   place = suc a.place;
   before = later Lower f g first a;
-  lower = a.lower
+  lower = a.lower;
 }
   where
     later : {A : Type 0} (Lower : A → A → Type 0) (f g : ℕ → A) → f 0 ≡ g 0 → (a : IsFirstLower Lower (λ i. f (suc i)) (λ i. g (suc i))) → (i : ℕ) → i < suc a.place → f i ≡ g i
@@ -76,6 +77,7 @@ place_strict Lower strict = record { apart = apart Lower strict; step = step Low
     apart : {A : Type 0} (Lower : A → A → Type 0) → IsStrict Lower → (x : Option A) → IsPlaceLower Lower x x → ⊥
     apart Lower strict None h = h
     apart Lower strict (Some x) h = strict.apart x h
+
     step : {A : Type 0} (Lower : A → A → Type 0) → IsStrict Lower → (x y z : Option A) → IsPlaceLower Lower x y → IsPlaceLower Lower y z → IsPlaceLower Lower x z
     step Lower strict None None z g h = absurd g
     step Lower strict None (Some y) None g h = h
@@ -91,7 +93,7 @@ lists_apart Lower strict xs h =
 pub lists_strict : {A : Type 0} (Lower : A → A → Type 0) → IsStrict Lower → IsStrict (IsListLower Lower)
 lists_strict Lower strict = record {
   apart = lists_apart Lower strict;
-  step = λ xs ys zs. IsFirstLower-step (IsPlaceLower Lower) (place_strict Lower strict) (slice_get xs) (slice_get ys) (slice_get zs)
+  step = λ xs ys zs. IsFirstLower-step (IsPlaceLower Lower) (place_strict Lower strict) (slice_get xs) (slice_get ys) (slice_get zs);
 }
 
 pub nat_strict : IsStrict ◌<◌
@@ -112,16 +114,18 @@ lists_total Lower total [] [] = inr (inl refl)
 lists_total Lower total [] (y ∷ ys) = inl (record { place = 0; before = λ i below. absurd (omega arith); lower = tt })
 lists_total Lower total (x ∷ xs) [] = inr (inr (record { place = 0; before = λ i below. absurd (omega arith); lower = tt }))
 lists_total Lower total (x ∷ xs) (y ∷ ys) = elim (total x y) [
-    inl h ↦ inl (head_lower Lower x y xs ys h)
+  | inl h ↦ inl (head_lower Lower x y xs ys h)
   | inr k ↦ elim k [
-      inl same ↦ elim (lists_total Lower total xs ys) [
-          inl h ↦ inl (tail_lower Lower x y xs ys same h)
-        | inr l ↦ elim l [
-            inl rest ↦ inr (inl (cons_same x y xs ys same rest))
-          | inr h ↦ inr (inr (tail_lower Lower y x ys xs (sym same) h))
-        ] ]
+    | inl same ↦ elim (lists_total Lower total xs ys) [
+      | inl h ↦ inl (tail_lower Lower x y xs ys same h)
+      | inr l ↦ elim l [
+        | inl rest ↦ inr (inl (cons_same x y xs ys same rest))
+        | inr h ↦ inr (inr (tail_lower Lower y x ys xs (sym same) h))
+      ]
+    ]
     | inr h ↦ inr (inr (head_lower Lower y x ys xs h))
-  ] ]
+  ]
+]
   where
     cons_same : {A : Type 0} (x y : A) (xs ys : List A) → x ≡ y → xs ≡ ys → x ∷ xs ≡ y ∷ ys
     cons_same x y xs ys e f = cc

@@ -1,5 +1,5 @@
 -- Identifiers: their texts and their order.
-use Rattle.std.proofs.Common.{◌≡◌, ◌≢◌, ◌⊎◌, inl, inr, ℕ, zero, suc, ◌+◌, ◌<◌, ◌≤◌, ◌&&◌, ◌||◌, ◌==◌, Bool, true, false, cond, IsTrue, List, [], ◌∷◌, ◌++◌, length, length-append, nat_lt, get_or, slice_get, Option, Some, None, refl, ap, sym, ◌∙◌, subst, arith, lit<, min}
+use Rattle.std.proofs.Common.{◌≡◌, inl, inr, ℕ, suc, ◌+◌, ◌<◌, ◌==◌, Bool, true, false, cond, IsTrue, List, [], ◌∷◌, ◌++◌, length, length-append, nat_lt, slice_get, Some, None, refl, ap, sym, ◌∙◌, arith, lit<, min}
 use Rattle.std.specs.List.{AllByRecursion, list_all}
 use Rattle.std.specs.declared.cmp.Ordering.{Ordering}
 use Rattle.std.specs.declared.cmp.Ordering.TheVariants.{Less, Equal, Greater}
@@ -14,7 +14,7 @@ use Rattle.wv_version.specs.declared.identifier.Identifier.{Identifier}
 use Rattle.wv_version.specs.declared.identifier.Identifier.TheVariants.{Number, Word}
 use Rattle.wv_version.specs.Cut.{IsFree}
 use Rattle.wv_version.specs.Numeral.{IsNumeral}
-use Rattle.wv_version.specs.Order.{IsFirstLower, IsPlaceLower, IsListLower}
+use Rattle.wv_version.specs.Order.{IsListLower}
 use Rattle.wv_version.specs.Identifier.{is_word_byte, IsWord, IsIdentifier, IsIdentifierLower, IsPreRelease}
 use Rattle.wv_version.specs.Reading.{is_numeral, is_word, identifier_of, identifiers_of, pre_release_of}
 use Rattle.wv_version.proofs.Numerals.{is_numeral-found, is_numeral-only, IsFree-numeral, both}
@@ -66,7 +66,7 @@ identifier_only text (Word word) h = rw (not_numeral text (is_numeral text) refl
 pub reads_identifiers : Reads identifier_of IsIdentifier
 reads_identifiers = record {
   found = λ text x e. identifier_found text x (is_numeral text) (is_word text) refl refl e;
-  only = identifier_only
+  only = identifier_only;
 }
 
 free_word : (mark : ℕ) (text : List ℕ) → is_word_byte mark ≡ false → AllByRecursion (λ byte. IsTrue (is_word_byte byte)) text → IsFree mark text
@@ -120,6 +120,7 @@ identifiers_strict = record { apart = apart; step = step }
     apart : (x : Identifier) → IsIdentifierLower x x → ⊥
     apart (Number m) h = omega arith
     apart (Word s) h = lists_apart ◌<◌ nat_strict s h
+
     step : (x y z : Identifier) → IsIdentifierLower x y → IsIdentifierLower y z → IsIdentifierLower x z
     step (Number m) (Number n) (Number o) g h = omega arith
     step (Number m) (Number n) (Word t) g h = tt
@@ -152,10 +153,12 @@ not_equal_from_test order h e = let clash : true ≡ false = sym h ∙ ap is_ne 
 -- the lists agree before n and at n
 pub lists_more : (xs ys : List Identifier) (n m : ℕ) (x y : Identifier) (order : Ordering) → ((i : ℕ) → i < n → slice_get xs i ≡ slice_get ys i) → slice_get xs n ≡ Some x → slice_get ys n ≡ Some y → MatchOrdering order (IsIdentifierLower x y) (x ≡ y) (IsIdentifierLower y x) → order ≡ Equal → m ≡ n + 1 → (i : ℕ) → i < m → slice_get xs i ≡ slice_get ys i
 lists_more xs ys n m x y order same at_x at_y h equal long i below = elim (nat_total i n) [
-    inl low ↦ same i low
+  | inl low ↦ same i low
   | inr k ↦ elim k [
-      inl here ↦ rw here (at_x ∙ ap Some (tie order h equal) ∙ sym at_y)
-    | inr high ↦ absurd (omega arith) ] ]
+    | inl here ↦ rw here (at_x ∙ ap Some (tie order h equal) ∙ sym at_y)
+    | inr high ↦ absurd (omega arith)
+  ]
+]
   where
     tie : (order : Ordering) → MatchOrdering order (IsIdentifierLower x y) (x ≡ y) (IsIdentifierLower y x) → order ≡ Equal → x ≡ y
     tie Less h e = cc
@@ -173,8 +176,9 @@ lists_same (x ∷ xs) (y ∷ ys) long same =
 
 shorter : (xs ys : List Identifier) → length xs < length ys → ((i : ℕ) → i < length xs → slice_get xs i ≡ slice_get ys i) → IsListLower IsIdentifierLower xs ys
 shorter xs ys less same = elim (slice_get_cases ys (length xs)).1 [
-    inl inside ↦ record { place = length xs; before = same; lower = rw (slice_get_past xs (length xs) (omega arith), inside.2) tt }
-  | inr past ↦ absurd (omega arith) ]
+  | inl inside ↦ record { place = length xs; before = same; lower = rw (slice_get_past xs (length xs) (omega arith), inside.2) tt }
+  | inr past ↦ absurd (omega arith)
+]
 
 -- one list ended, and the lists agree so far
 pub lists_end : (xs ys : List Identifier) (n : ℕ) (order : Ordering) → n ≡ min (length xs) (length ys) → ((i : ℕ) → i < n → slice_get xs i ≡ slice_get ys i) → order ≡ nat_cmp (length xs) (length ys) → MatchOrdering order (IsListLower IsIdentifierLower xs ys) (xs ≡ ys) (IsListLower IsIdentifierLower ys xs)

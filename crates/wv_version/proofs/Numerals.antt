@@ -1,5 +1,5 @@
 -- Numerals: what is read as a number is spelled so, and what is spelled so is read.
-use Rattle.std.proofs.Common.{◌≡◌, ◌≢◌, ℕ, ◌<◌, ◌≤◌, ◌^◌, ◌&&◌, Bool, true, false, cond, List, [], ◌∷◌, length, nat_lt, Option, Some, None, refl, arith, rules}
+use Rattle.std.proofs.Common.{◌≡◌, ◌≢◌, ℕ, ◌<◌, ◌^◌, ◌&&◌, Bool, true, false, cond, List, [], ◌∷◌, length, nat_lt, Some, None, refl, arith}
 use Rattle.std.specs.List.{list_all}
 use Rattle.std.specs.Char.{is_ascii_digit, digit_value}
 use Rattle.std.specs.Str.Parse.{AllDigits, digits_value}
@@ -38,7 +38,7 @@ is_numeral-found text h =
       digits = AllDigits-from_test text parts.1;
       not_empty = grind (arith, nat_tests);
       not_long = grind (arith, nat_tests);
-      value = refl
+      value = refl;
     }
 
 pub is_numeral-only : (text : List ℕ) (number : ℕ) → IsNumeral text number → is_numeral text ≡ true
@@ -59,7 +59,7 @@ number_only text number h = rw (is_numeral-only text number h, h.value) refl
 pub reads_numbers : Reads number_of IsNumeral
 reads_numbers = record {
   found = λ text number e. number_found text number (is_numeral text) refl e;
-  only = number_only
+  only = number_only;
 }
 
 free_digits : (mark : ℕ) (text : List ℕ) → mark < 48 → AllDigits 10 text → IsFree mark text

@@ -1,6 +1,6 @@
 -- Texts of pieces between dots.
-use Rattle.std.proofs.Common.{◌≡◌, ◌≢◌, ℕ, ◌+◌, ◌<◌, ◌==◌, List, [], ◌∷◌, ◌++◌, length, Option, Some, None, option_map, option_and_then, refl, ap, sym, ◌∙◌, arith, append_assoc}
-use Rattle.std.specs.List.{AllByRecursion, join_with_byte}
+use Rattle.std.proofs.Common.{◌≡◌, ◌≢◌, ℕ, ◌+◌, ◌==◌, List, [], ◌∷◌, ◌++◌, length, Option, Some, None, option_map, option_and_then, refl, ap, sym, ◌∙◌, arith, append_assoc}
+use Rattle.std.specs.List.{AllByRecursion}
 use Rattle.std.proofs.lemmas.List.Splits.{join_with_byte-slice_split, length-slice_split}
 use Rattle.wv_version.specs.Cut.{IsFree, IsCut}
 use Rattle.wv_version.specs.Dots.{SpellsEach, IsDotJoined}
@@ -50,7 +50,7 @@ dots-found read Spells reads text xs e = record {
   pieces = parts 46 text;
   joined = sym (join_with_byte-slice_split 46 text);
   not_empty = omega (arith, length-slice_split (λ byte. byte == 46) text);
-  each = each_of-found read Spells reads (parts 46 text) xs e
+  each = each_of-found read Spells reads (parts 46 text) xs e;
 }
 
 pub dots-only : {A : Type 0} (read : List ℕ → Option A) (Spells : List ℕ → A → Type 0) → Reads read Spells → ((text : List ℕ) (x : A) → Spells text x → IsFree 46 text) → (text : List ℕ) (xs : List A) → IsDotJoined Spells text xs → each_of read (parts 46 text) ≡ Some xs
@@ -80,6 +80,7 @@ each_step read front text piece after whole x cut some so_far =
   where
     stepped : {A : Type 0} {first : Option A} (rest : Option (List A)) (x : A) → first ≡ Some x → option_and_then (λ x. option_map (λ xs. x ∷ xs) rest) first ≡ option_map (λ xs. x ∷ xs) rest
     stepped rest x some = rw some refl
+
     moved : {A : Type 0} (front : List A) (x : A) (rest : Option (List A)) → option_map (λ more. (front ++ x ∷ []) ++ more) rest ≡ option_map (λ more. front ++ more) (option_map (λ xs. x ∷ xs) rest)
     moved front x None = refl
     moved front x (Some rest) = ap Some (append_assoc front (x ∷ []) rest)

@@ -1,5 +1,5 @@
 -- Signs and wildcards: which kind of term a text is.
-use Rattle.std.proofs.Common.{◌≡◌, ◌≢◌, ◌⊎◌, inl, inr, ℕ, zero, suc, ◌+◌, ◌<◌, ◌≤◌, List, [], ◌∷◌, ◌++◌, length, length-append, Option, Some, None, IfSome, IfNone, refl, ap, sym, ◌∙◌, subst, arith, append_assoc}
+use Rattle.std.proofs.Common.{◌≡◌, inl, inr, ℕ, ◌<◌, ◌≤◌, List, [], ◌∷◌, ◌++◌, length, length-append, Option, Some, None, IfSome, IfNone, refl, ap, sym, ◌∙◌, subst, arith}
 use Rattle.std.specs.List.{join_with_byte}
 use Rattle.std.proofs.lemmas.Str.Parse.{digit_from_value}
 use Rattle.std.specs.Str.Parse.{AllDigits}
@@ -12,8 +12,8 @@ use Rattle.wv_version.specs.Cut.{led_by}
 use Rattle.wv_version.specs.Numeral.{IsNumeral}
 use Rattle.wv_version.specs.Dots.{SpellsEach, IsDotJoined}
 use Rattle.wv_version.specs.Dotted.{IsDotted}
-use Rattle.wv_version.specs.Relation.{sign, IsSigned, IsWholeSign, HasNoSign}
-use Rattle.wv_version.specs.Term.{IsTerm, IsWildcard, IsBeforeWildcard, HasNoWildcard}
+use Rattle.wv_version.specs.Relation.{sign, IsSigned, IsWholeSign}
+use Rattle.wv_version.specs.Term.{IsTerm, IsWildcard, IsBeforeWildcard}
 use Rattle.wv_version.specs.Reading.{numbers_of}
 use Rattle.wv_version.proofs.Dotting.{numbers_of-found, numbers_of-only, some_none}
 

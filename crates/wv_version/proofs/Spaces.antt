@@ -1,6 +1,6 @@
 -- The words of a predicate's text, and a loop over them.
-use Rattle.std.proofs.Common.{◌≡◌, ◌≢◌, ℕ, ◌<◌, ◌==◌, Bool, true, false, cond, List, [], ◌∷◌, ◌++◌, length, nat_lt, filter, Option, Some, None, refl, ap, sym, ◌∙◌, subst, arith, append_assoc}
-use Rattle.std.specs.List.{AllByRecursion, join_with_byte, slice_split, onto_first}
+use Rattle.std.proofs.Common.{◌≡◌, ◌≢◌, ℕ, ◌<◌, ◌==◌, Bool, true, false, cond, List, [], ◌∷◌, ◌++◌, length, nat_lt, Option, Some, None, refl, ap, sym, ◌∙◌, subst, arith, append_assoc}
+use Rattle.std.specs.List.{AllByRecursion, join_with_byte, onto_first}
 use Rattle.std.proofs.lemmas.Bool.Decides.{nat_tests}
 use Rattle.std.proofs.lemmas.List.{append-nil}
 use Rattle.std.proofs.lemmas.List.Elements.{filter-append}
@@ -46,7 +46,7 @@ pub read_to-skip : (text t piece : List ℕ) (after : Option (List ℕ)) (terms 
 read_to-skip text t piece after terms so_far cut empty = record {
   done = so_far.done ++ piece ∷ [];
   split = split_more text t piece after so_far.done cut so_far.split ∙ push_more so_far.done piece (parts_of 32 after);
-  each = subst (λ ws. SpellsEach IsTerm ws terms) (sym kept) so_far.each
+  each = subst (λ ws. SpellsEach IsTerm ws terms) (sym kept) so_far.each;
 }
   where
     kept : words (so_far.done ++ piece ∷ []) ≡ words so_far.done
@@ -60,7 +60,7 @@ pub read_to-push : (text t piece : List ℕ) (after : Option (List ℕ)) (terms 
 read_to-push text t piece after terms one so_far cut some h = record {
   done = so_far.done ++ piece ∷ [];
   split = split_more text t piece after so_far.done cut so_far.split ∙ push_more so_far.done piece (parts_of 32 after);
-  each = subst (λ ws. SpellsEach IsTerm ws (terms ++ one ∷ [])) (sym pushed) (spells-push (words so_far.done) terms piece one so_far.each h)
+  each = subst (λ ws. SpellsEach IsTerm ws (terms ++ one ∷ [])) (sym pushed) (spells-push (words so_far.done) terms piece one so_far.each h);
 }
   where
     pushed : words (so_far.done ++ piece ∷ []) ≡ words so_far.done ++ piece ∷ []
@@ -87,7 +87,7 @@ read_to-end text terms h = record {
   pieces = parts 32 text;
   joined = sym (join_with_byte-slice_split 32 text);
   free = parts_free 32 text;
-  each = subst (λ ps. SpellsEach IsTerm (words ps) terms) (sym (h.split ∙ append-nil h.done)) h.each
+  each = subst (λ ps. SpellsEach IsTerm (words ps) terms) (sym (h.split ∙ append-nil h.done)) h.each;
 }
 
 -- the words of a text don't depend on the pieces

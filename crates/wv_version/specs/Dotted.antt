@@ -1,4 +1,4 @@
-use Rattle.std.specs.Prelude.{◌≡◌, ◌⊎◌, ℕ, ◌<◌, ◌||◌, ◌==◌, Bool, IsTrue, List, [], ◌∷◌, ◌++◌, length, Option, Some, None, IfSome, slice_index}
+use Rattle.std.specs.Prelude.{◌≡◌, ◌⊎◌, ℕ, ◌<◌, ◌||◌, ◌==◌, IsTrue, List, [], ◌∷◌, ◌++◌, length, Option, Some, None, IfSome, slice_index}
 use Rattle.std.specs.List.{AllByRecursion}
 use Rattle.wv_version.specs.declared.dotted.Dotted.{Dotted}
 use Rattle.wv_version.specs.declared.identifier.Identifier.{Identifier}

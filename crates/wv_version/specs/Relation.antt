@@ -1,4 +1,4 @@
-use Rattle.std.specs.Prelude.{◌≡◌, ◌≢◌, ℕ, List, [], ◌∷◌, ◌++◌, codes, slice_index}
+use Rattle.std.specs.Prelude.{◌≡◌, ◌≢◌, ℕ, List, ◌∷◌, ◌++◌, codes, slice_index}
 use Rattle.wv_version.specs.declared.dotted.Dotted.{Dotted}
 use Rattle.wv_version.specs.declared.relation.Relation.{Relation}
 use Rattle.wv_version.specs.declared.relation.Relation.TheVariants.{Below, AtMost, Above, AtLeast, Caret, Tilde}

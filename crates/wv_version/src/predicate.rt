@@ -12,6 +12,7 @@ use wv_base::{Items, Memory, Text};
 /// A predicate on versions, as an entry of `depends` or `breaks` has it: terms that all must be met.
 #[derive(Debug, Drop)]
 pub struct Predicate {
+    /// A predicate without terms is met by every version.
     pub terms: Items<Term>,
 }
 

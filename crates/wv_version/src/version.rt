@@ -7,16 +7,18 @@ use std::alloc::Global;
 use std::cmp::Ordering;
 use wv_base::{Memory, Text};
 
-/// A version of a mod.
+/// A version of a mod (own, after Fabric Loader): numbers of 1 to 18 digits between dots, then
+/// optionally `-` and a pre-release part, then optionally `+` and a build part; or any other text.
 #[derive(Debug, Drop)]
 pub enum Version {
+    /// A version of numbers. Only such versions have an order.
     Dotted(Dotted),
-    /// Any other text.
+    /// Any other text, as `23w31a`.
     Plain(Text),
 }
 
 impl Version {
-    /// The version that the text spells.
+    /// The version that the text spells. Every text spells one.
     pub fn read(alloc: Global, text: &Text) -> Result<Version, Memory>
         ensures { IfOk result (IsVersion text.now) }
     {
@@ -33,7 +35,8 @@ impl Version {
         }
     }
 
-    /// The order of two dotted versions. A plain version has none.
+    /// The order of two dotted versions: by the first number that differs, where a missing one counts
+    /// as 0, and then by the pre-release parts. A plain version has none.
     pub fn compare(&self, other: &Version) -> Option<Ordering>
         ensures none { IsNone result ↔ (IsPlain self.now ⊎ IsPlain other.now) }
         ensures less { (result ≡ Some Ordering.Less) ↔ IsVersionLower self.now other.now }

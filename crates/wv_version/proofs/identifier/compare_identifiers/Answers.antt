@@ -1,4 +1,4 @@
-use Rattle.std.proofs.Common.{◌≡◌, Some, None, sym, ◌∙◌, arith, length, rules, refl, slice_get}
+use Rattle.std.proofs.Common.{◌≡◌, Some, sym, ◌∙◌, length, rules, refl, slice_get}
 use Rattle.std.proofs.lemmas.Slice.Zip.{zip_turn, zip_end}
 use Rattle.std.proofs.lemmas.Option.{slice_get_read}
 use Rattle.wv_version.proofs.Identifiers.{lists_differ, lists_more, lists_end, equal_from_test, not_equal_from_test, length-push}

@@ -1,4 +1,4 @@
-use Rattle.wv_version.proofs.Ordering.{at_most_refl, at_most_step, at_most_total, lower_apart, lower_from_not, same_from_both, same_back}
+use Rattle.wv_version.proofs.Ordering.{at_most_step, at_most_total, lower_apart, lower_from_not, same_from_both, same_back}
 use Rattle.std.proofs.Common.{inr}
 use Rattle.wv_version.proofs.laws.total_preorder.Goals as goal
 

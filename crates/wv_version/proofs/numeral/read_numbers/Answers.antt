@@ -1,4 +1,4 @@
-use Rattle.std.proofs.Common.{◌≡◌, Some, None, sym, ◌∙◌, option_copied}
+use Rattle.std.proofs.Common.{◌≡◌, Some, None, sym, option_copied}
 use Rattle.wv_version.specs.Reading.{number_of, numbers_of}
 use Rattle.wv_version.proofs.Pieces.{each_stop, each_step}
 use Rattle.wv_version.proofs.numeral.read_numbers.Goals as goal

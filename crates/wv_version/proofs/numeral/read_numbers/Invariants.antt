@@ -1,4 +1,4 @@
-use Rattle.std.proofs.Common.{◌≡◌, ◌+◌, ◌++◌, length, option_map, option_copied}
+use Rattle.std.proofs.Common.{◌≡◌, ◌++◌, option_map, option_copied}
 use Rattle.wv_version.specs.Reading.{each_of, number_of, numbers_of, parts_of}
 use Rattle.wv_version.proofs.Pieces.{text_left}
 use Rattle.wv_version.proofs.numeral.read_numbers.Given as goal

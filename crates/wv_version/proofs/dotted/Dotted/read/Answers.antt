@@ -1,5 +1,4 @@
-use Rattle.std.proofs.Common.{◌≡◌, Some, None, sym, ◌∙◌, option_copied, false, true}
-use Rattle.wv_version.specs.Reading.{numbers_of, pre_release_of}
+use Rattle.std.proofs.Common.{Some, None, sym, ◌∙◌, option_copied}
 use Rattle.wv_version.proofs.Dotting.{parts_of_dotted, dotted_of_parts, numbers_of-found, numbers_of-only, build-found, build-only, some_none, pre_release-none}
 use Rattle.wv_version.proofs.Identifiers.{pre_release_of-found}
 use Rattle.wv_version.proofs.dotted.Dotted.read.Goals as goal
@@ -20,7 +19,7 @@ returns-in_default-pre_release-clause-found c =
     (record {
       of_numbers = numbers_of-found c.cut-2.result.0.now c.in-Some.numbers (sym c.in_ok-numbers.ensures ∙ c.in-Some.is);
       of_pre_release = tt;
-      of_build = build-found (option_copied c.cut.result.1) c.is_build_part.result c.is_build_part.ensures c.if-not-is_build_part.false
+      of_build = build-found (option_copied c.cut.result.1) c.is_build_part.result c.is_build_part.ensures c.if-not-is_build_part.false;
     })
 
 pub returns-in_default-2-clause-none : goal.returns-in_default-2-clause-none
@@ -34,5 +33,5 @@ returns-clause-found c =
     (record {
       of_numbers = numbers_of-found c.cut-2.result.0.now c.in-Some.numbers (sym c.in_ok-numbers.ensures ∙ c.in-Some.is);
       of_pre_release = pre_release_of-found c.in-Some-pre_release.pre_release.now c.in-Some-2.pre_release (sym c.in_ok-pre_release.ensures ∙ c.in-Some-2.is);
-      of_build = build-found (option_copied c.cut.result.1) c.is_build_part.result c.is_build_part.ensures c.if-not-is_build_part.false
+      of_build = build-found (option_copied c.cut.result.1) c.is_build_part.result c.is_build_part.ensures c.if-not-is_build_part.false;
     })

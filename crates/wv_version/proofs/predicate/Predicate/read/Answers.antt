@@ -1,4 +1,4 @@
-use Rattle.std.proofs.Common.{◌<◌, length, Some, None, option_copied, arith}
+use Rattle.std.proofs.Common.{option_copied}
 use Rattle.wv_version.proofs.Spaces.{read_to-none, read_to-push, read_to-skip, read_to-end, some-from_test, empty-from_test}
 use Rattle.wv_version.proofs.predicate.Predicate.read.Goals as goal
 
