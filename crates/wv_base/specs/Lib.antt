@@ -1,0 +1,11 @@
+pub mod Line
+pub mod Rule
+pub mod Shown
+pub mod Opcodes
+pub mod Instructions
+pub mod Folder
+pub mod Modified
+pub mod ModifiedReading
+pub mod Names
+pub mod Descriptor
+pub mod DescriptorReading

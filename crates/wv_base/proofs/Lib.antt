@@ -1,0 +1,4 @@
+pub mod Buffer
+pub mod PathOrder
+pub mod UnitSpelling
+pub mod NameSpelling

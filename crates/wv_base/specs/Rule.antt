@@ -1,0 +1,116 @@
+-- The numbers and the names of the rules (our own).
+use Rattle.std.specs.Prelude.{ℕ, List, codes}
+use Rattle.wv_base.specs.declared.rule.Rule.{Rule}
+use Rattle.wv_base.specs.declared.rule.Rule.TheVariants.{JarFile, GameMissing, GameBad, TooMuch, AnswersBad, OutOfForm, ModMissing, ModBad, IdBad, NestedJars, PredicateBad, DuplicateId, DependsUnmet, BreaksMet, ConfigMissing, ConfigBad, PluginNamed, RefmapBad, MixinMissing, ClassBad, VersionOutside, NamePath, ClassTwice, HierarchyBad, Unverified, MixinBad, TargetMissing, TargetKind, MixinSuper, MixinReferenced, MixinMember, ShadowMissing, OverwriteMissing, OverwriteKind, OverwriteUnmarked, AccessorMissing, AccessorForm, InvokerMissing, InvokerForm, SelectorBad, PointBad, RequireUnmet, AllowPassed, HandlerForm, HandlerStatic, ConstructorSpot, NewShape, VariableOpen, SlotRetyped, CodeLarge, BranchFar, PoolLarge, FrameWide}
+
+-- the number that a refusal prints
+abbrev pub number_of : Rule → ℕ
+number_of JarFile = 1
+number_of GameMissing = 2
+number_of GameBad = 3
+number_of TooMuch = 5
+number_of AnswersBad = 6
+number_of OutOfForm = 9
+number_of ModMissing = 10
+number_of ModBad = 11
+number_of IdBad = 12
+number_of NestedJars = 13
+number_of PredicateBad = 14
+number_of DuplicateId = 15
+number_of DependsUnmet = 16
+number_of BreaksMet = 17
+number_of ConfigMissing = 20
+number_of ConfigBad = 21
+number_of PluginNamed = 22
+number_of RefmapBad = 23
+number_of MixinMissing = 24
+number_of ClassBad = 30
+number_of VersionOutside = 31
+number_of NamePath = 32
+number_of ClassTwice = 33
+number_of HierarchyBad = 35
+number_of Unverified = 36
+number_of MixinBad = 40
+number_of TargetMissing = 41
+number_of TargetKind = 42
+number_of MixinSuper = 43
+number_of MixinReferenced = 44
+number_of MixinMember = 45
+number_of ShadowMissing = 50
+number_of OverwriteMissing = 51
+number_of OverwriteKind = 52
+number_of OverwriteUnmarked = 53
+number_of AccessorMissing = 55
+number_of AccessorForm = 56
+number_of InvokerMissing = 57
+number_of InvokerForm = 58
+number_of SelectorBad = 60
+number_of PointBad = 62
+number_of RequireUnmet = 64
+number_of AllowPassed = 65
+number_of HandlerForm = 66
+number_of HandlerStatic = 67
+number_of ConstructorSpot = 69
+number_of NewShape = 70
+number_of VariableOpen = 71
+number_of SlotRetyped = 72
+number_of CodeLarge = 80
+number_of BranchFar = 81
+number_of PoolLarge = 82
+number_of FrameWide = 84
+
+-- the name that a refusal prints
+unfoldable pub name_of : Rule → List ℕ
+name_of JarFile = codes "JarFile"
+name_of GameMissing = codes "GameMissing"
+name_of GameBad = codes "GameBad"
+name_of TooMuch = codes "TooMuch"
+name_of AnswersBad = codes "AnswersBad"
+name_of OutOfForm = codes "OutOfForm"
+name_of ModMissing = codes "ModMissing"
+name_of ModBad = codes "ModBad"
+name_of IdBad = codes "IdBad"
+name_of NestedJars = codes "NestedJars"
+name_of PredicateBad = codes "PredicateBad"
+name_of DuplicateId = codes "DuplicateId"
+name_of DependsUnmet = codes "DependsUnmet"
+name_of BreaksMet = codes "BreaksMet"
+name_of ConfigMissing = codes "ConfigMissing"
+name_of ConfigBad = codes "ConfigBad"
+name_of PluginNamed = codes "PluginNamed"
+name_of RefmapBad = codes "RefmapBad"
+name_of MixinMissing = codes "MixinMissing"
+name_of ClassBad = codes "ClassBad"
+name_of VersionOutside = codes "VersionOutside"
+name_of NamePath = codes "NamePath"
+name_of ClassTwice = codes "ClassTwice"
+name_of HierarchyBad = codes "HierarchyBad"
+name_of Unverified = codes "Unverified"
+name_of MixinBad = codes "MixinBad"
+name_of TargetMissing = codes "TargetMissing"
+name_of TargetKind = codes "TargetKind"
+name_of MixinSuper = codes "MixinSuper"
+name_of MixinReferenced = codes "MixinReferenced"
+name_of MixinMember = codes "MixinMember"
+name_of ShadowMissing = codes "ShadowMissing"
+name_of OverwriteMissing = codes "OverwriteMissing"
+name_of OverwriteKind = codes "OverwriteKind"
+name_of OverwriteUnmarked = codes "OverwriteUnmarked"
+name_of AccessorMissing = codes "AccessorMissing"
+name_of AccessorForm = codes "AccessorForm"
+name_of InvokerMissing = codes "InvokerMissing"
+name_of InvokerForm = codes "InvokerForm"
+name_of SelectorBad = codes "SelectorBad"
+name_of PointBad = codes "PointBad"
+name_of RequireUnmet = codes "RequireUnmet"
+name_of AllowPassed = codes "AllowPassed"
+name_of HandlerForm = codes "HandlerForm"
+name_of HandlerStatic = codes "HandlerStatic"
+name_of ConstructorSpot = codes "ConstructorSpot"
+name_of NewShape = codes "NewShape"
+name_of VariableOpen = codes "VariableOpen"
+name_of SlotRetyped = codes "SlotRetyped"
+name_of CodeLarge = codes "CodeLarge"
+name_of BranchFar = codes "BranchFar"
+name_of PoolLarge = codes "PoolLarge"
+name_of FrameWide = codes "FrameWide"

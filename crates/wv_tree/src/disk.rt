@@ -1,0 +1,251 @@
+//! Folders and files of the system, without following links in them.
+ghost use Rattle.std.specs.Prelude.{◌≤◌, ◌+◌, IfOk, OnOk, vec_len};
+ghost use Rattle.wv_tree.specs.Tree.{IsAscending, path_bytes};
+
+use crate::fault::IoFault;
+use std::alloc::Global;
+use std::io::{ErrorKind, Read};
+use std::rt::Files;
+use std::{fs, io};
+
+/// How many folders may lie one in another within the folder that is listed.
+const MOST_NESTED: usize = 64;
+
+/// How many bytes are read at once.
+const PIECE: usize = 8192;
+
+impl From<io::Error> for IoFault {
+    fn from(error: io::Error) -> IoFault {
+        if error.kind() == ErrorKind::OutOfMemory {
+            IoFault::Memory
+        } else {
+            IoFault::Failed
+        }
+    }
+}
+
+/// Fails where there is no such folder.
+pub(crate) fn require_folder(files: &impl Files, path: &str) -> Result<(), IoFault> {
+    if fs::metadata(files, path)?.is_dir() {
+        Ok(())
+    } else {
+        Err(IoFault::Failed)
+    }
+}
+
+/// The paths of all files below a folder, in the order of their bytes.
+pub(crate) fn list<R: Files + AllocGlobal + Clone + Drop>(
+    runtime: &R,
+    alloc: Global,
+    folder: &str,
+) -> Result<Vec<String>, IoFault>
+    ensures { IfOk result (λ paths. IsAscending (path_bytes paths)) }
+{
+    Ok(in_order(find_files(runtime, alloc, folder)?))
+}
+
+/// The paths in the order of their bytes, each once.
+fn in_order(mut paths: Vec<String>) -> Vec<String>
+    ensures { IsAscending (path_bytes result) }
+{
+    paths.sort_unstable();
+    paths.dedup();
+    paths
+}
+
+/// A folder that is still to be gone through: its path below the first one, and how many folders
+/// lie round it there.
+#[derive(Drop)]
+struct Pending {
+    path: String,
+    nested: usize,
+}
+
+/// The paths of all files below a folder, in some order.
+fn find_files<R: Files + AllocGlobal + Clone + Drop>(
+    runtime: &R,
+    alloc: Global,
+    folder: &str,
+) -> Result<Vec<String>, IoFault> {
+    let mut paths = Vec::new(alloc);
+    let mut pending = Vec::new(alloc);
+    pending.push(Pending {
+        path: String::new(alloc),
+        nested: 0,
+    })?;
+    for _ in 0..u64::MAX {
+        let Some(next) = pending.pop() else {
+            return Ok(paths);
+        };
+        if next.nested > MOST_NESTED {
+            return Err(IoFault::Failed);
+        }
+        list_one(runtime, alloc, folder, &next, &mut pending, &mut paths)?;
+    }
+    Err(IoFault::Failed)
+}
+
+/// Adds the files of one folder to the paths, and the folders in it to those still to come. What
+/// is neither, as a link, is left out.
+fn list_one<R: Files + AllocGlobal + Clone + Drop>(
+    runtime: &R,
+    alloc: Global,
+    folder: &str,
+    inner: &Pending,
+    pending: &mut Vec<Pending>,
+    paths: &mut Vec<String>,
+) -> Result<(), IoFault> {
+    let full = join(alloc, folder, inner.path.as_str())?;
+    for entry in fs::read_dir(runtime, full.as_str())? {
+        let entry = entry?;
+        let kind = entry.file_type()?;
+        let path = join(alloc, inner.path.as_str(), entry.file_name())?;
+        if kind.is_dir() {
+            pending.push(Pending {
+                path,
+                nested: inner.nested.saturating_add(1),
+            })?;
+        } else if kind.is_file() {
+            paths.push(path)?;
+        }
+    }
+    Ok(())
+}
+
+/// One path below another, where an empty one stands for the place itself.
+fn join(alloc: Global, front: &str, back: &str) -> Result<String, IoFault> {
+    let mut path = String::from_str(alloc, front)?;
+    if !front.is_empty() && !back.is_empty() {
+        path.push('/')?;
+    }
+    path.push_str(back)?;
+    Ok(path)
+}
+
+/// The place of a file below a folder. `visit` is handed each folder on the way, and fails where
+/// it isn't to be gone through.
+fn place_of<F: Fn(&str) -> Result<(), IoFault>>(
+    alloc: Global,
+    folder: &str,
+    path: &str,
+    visit: F,
+) -> Result<String, IoFault>
+where
+    F: Drop,
+    requires { F.IsAlwaysCallable visit }
+{
+    if folder.is_empty() {
+        return Err(IoFault::Failed);
+    }
+    let mut place = String::from_str(alloc, folder)?;
+    for part in path.split('/') {
+        if !is_name(part) {
+            return Err(IoFault::Failed);
+        }
+        if place.len() > folder.len() {
+            visit(place.as_str())?;
+        }
+        place.push('/')?;
+        place.push_str(part)?;
+    }
+    Ok(place)
+}
+
+/// Whether a part of a path names something in its folder.
+fn is_name(part: &str) -> bool {
+    !part.is_empty() && part != "." && part != ".."
+}
+
+/// The first bytes of a file below a folder, at most `most` of them.
+pub(crate) fn read(
+    files: &impl Files,
+    alloc: Global,
+    folder: &str,
+    path: &str,
+    most: u64,
+) -> Result<Vec<u8>, IoFault>
+    ensures { IfOk result (λ bytes. vec_len bytes ≤ most) }
+{
+    let place = place_of(alloc, folder, path, |inner| require_no_link(files, inner))?;
+    if !fs::symlink_metadata(files, place.as_str())?.is_file() {
+        return Err(IoFault::Failed);
+    }
+    let mut file = fs::open(files, place.as_str())?;
+    read_front(alloc, &mut file, most)
+}
+
+/// Fails where there is no such folder, and where a link stands in its place.
+fn require_no_link(files: &impl Files, folder: &str) -> Result<(), IoFault> {
+    if fs::symlink_metadata(files, folder)?.is_dir() {
+        Ok(())
+    } else {
+        Err(IoFault::Failed)
+    }
+}
+
+/// What a reader gives up to its end, at most `most` bytes.
+fn read_front(alloc: Global, reader: &mut impl Read, most: u64) -> Result<Vec<u8>, IoFault>
+    ensures { IfOk result (λ bytes. vec_len bytes ≤ most) }
+{
+    let mut bytes = Vec::new(alloc);
+    for _ in 0..u64::MAX {
+        let wanted = (most - bytes.len() as u64).min(PIECE as u64) as usize;
+        if wanted == 0 || !read_piece(reader, &mut bytes, wanted)? {
+            return Ok(bytes);
+        }
+    }
+    Err(IoFault::Failed)
+}
+
+/// Reads some bytes behind those that are there, at most `wanted`. It answers whether there may be
+/// more.
+fn read_piece(reader: &mut impl Read, bytes: &mut Vec<u8>, wanted: usize) -> Result<bool, IoFault>
+    requires { wanted ≤ PIECE }
+    ensures { OnOk result (vec_len bytes.new ≤ vec_len bytes.old + wanted) }
+{
+    let mut piece = [0u8; PIECE];
+    match reader.read(&mut piece[..wanted]) {
+        Ok(0) => Ok(false),
+        Ok(count) => {
+            bytes.extend_from_slice(&piece[..count])?;
+            Ok(true)
+        }
+        Err(error) if error.kind() == ErrorKind::Interrupted => Ok(true),
+        Err(error) => Err(error.into()),
+    }
+}
+
+/// Puts a file below a folder, and makes the folders that it needs.
+pub(crate) fn put(
+    files: &impl Files,
+    alloc: Global,
+    folder: &str,
+    path: &str,
+    bytes: &[u8],
+) -> Result<(), IoFault> {
+    fs::create_dir_all(files, folder)?;
+    let place = place_of(alloc, folder, path, |inner| make_folder(files, inner))?;
+    if is_there(files, place.as_str())? && !fs::symlink_metadata(files, place.as_str())?.is_file() {
+        return Err(IoFault::Failed);
+    }
+    fs::write(files, place.as_str(), bytes)?;
+    Ok(())
+}
+
+/// Makes a folder where it isn't there, and fails where a link stands in its place.
+fn make_folder(files: &impl Files, folder: &str) -> Result<(), IoFault> {
+    if is_there(files, folder)? {
+        require_no_link(files, folder)
+    } else {
+        Ok(fs::create_dir(files, folder)?)
+    }
+}
+
+/// Whether a file, a folder or a link has this path.
+fn is_there(files: &impl Files, path: &str) -> Result<bool, IoFault> {
+    match fs::symlink_metadata(files, path) {
+        Ok(_) => Ok(true),
+        Err(error) if error.kind() == ErrorKind::NotFound => Ok(false),
+        Err(error) => Err(error.into()),
+    }
+}

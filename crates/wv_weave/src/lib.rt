@@ -1,0 +1,23 @@
+//! The weaver: mixins are merged into game classes, and the classes are written.
+#![tactic(auto)]
+
+mod annotation;
+mod code;
+mod fault;
+mod form;
+mod opcode;
+mod overwrite;
+mod path;
+mod plain_class;
+mod pool;
+mod pool_builder;
+mod reader;
+mod typing;
+mod weaver;
+mod write;
+
+pub use fault::WeaveFault;
+pub use path::is_read;
+pub use plain_class::{is_plain, read_class};
+pub use weaver::{Woven, weave};
+pub use write::write_class;
