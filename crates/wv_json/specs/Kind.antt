@@ -42,8 +42,8 @@ IsTextOrTexts value texts = IsTexts value texts ⊎ ((text : List ℕ) × IsText
 abbrev pub AreMembers : {A : Type 0} → (Data → A → Type 0) → Members → List (List ℕ × A) → Type 0
 AreMembers OfKind no_members [] = Unit {0}
 AreMembers OfKind no_members (entry ∷ entries) = ⊥
-AreMembers OfKind (member key value members) [] = ⊥
-AreMembers OfKind (member key value members) (entry ∷ entries) = (entry.0 ≡ key) × OfKind value entry.1 × AreMembers OfKind members entries
+AreMembers OfKind (member key value rest) [] = ⊥
+AreMembers OfKind (member key value rest) (entry ∷ entries) = (entry.0 ≡ key) × OfKind value entry.1 × AreMembers OfKind rest entries
 
 -- the value is the object of these keys, in their order, each with a value of the kind
 abbrev pub IsObjectOf : {A : Type 0} → (Data → A → Type 0) → Data → List (List ℕ × A) → Type 0

@@ -2,7 +2,6 @@ use crate::{
     Field, JsonError, field_bool, field_list, field_number, field_object, field_text, field_texts,
     has_field, read_object, read_text_members, read_text_or_texts, read_texts, read_texts_members,
 };
-use std::process::Abort;
 use std::test::Fail;
 
 /// What a field shows, for tables.
@@ -30,6 +29,21 @@ fn reads_objects(rt: HostRuntime) -> Result<(), Fail> {
         assert_eq!(rt; error, Some(JsonError::Wrong));
     }
     assert!(rt; read_object(alloc, b" {\"id\": \"a\"} ").is_ok());
+    for (lists, read) in [(126usize, true), (127, false)] {
+        let mut text = String::from_str(alloc, "{\"a\":")?;
+        for _ in 0..lists {
+            text.push('[')?;
+        }
+        for _ in 0..lists {
+            text.push(']')?;
+        }
+        text.push('}')?;
+        assert_eq!(rt;
+            read_object(alloc, text.as_bytes()).is_ok(),
+            read,
+            "{lists} lists"
+        );
+    }
     Ok(())
 }
 

@@ -42,6 +42,9 @@ impl Predicate {
     pub fn test(&self, version: &Version) -> bool
         ensures { IsTrue result ↔ Meets version.now self.now }
     {
-        self.terms.as_slice().iter().all(|term| term.is_met(version))
+        self.terms
+            .as_slice()
+            .iter()
+            .all(|term| term.is_met(version))
     }
 }
