@@ -59,23 +59,33 @@ abbrev pub method_descriptor_of : MethodType → List ℕ
 method_descriptor_of method =
     codes "(" ++ (flat_map descriptor_of method.parameters ++ (codes ")" ++ result_descriptor method.result))
 
+-- a result that has a descriptor
+abbrev pub IsResult : Option FieldType → Type 0
+IsResult result = IfSome result IsFieldType
+
 -- a method's type that has a descriptor
 abbrev pub IsMethodType : MethodType → Type 0
-IsMethodType method = AllByRecursion IsFieldType method.parameters × IfSome method.result IsFieldType
+IsMethodType method = AllByRecursion IsFieldType method.parameters × IsResult method.result
 
 -- the units are a method descriptor
 abbrev pub IsMethodDescriptor : List ℕ → Type 0
 IsMethodDescriptor units = (method : MethodType) × IsMethodType method × (units ≡ method_descriptor_of method)
 
--- how many words a value of the type takes (4.3.3): two for long and double, else one
+-- how many words a value takes (4.3.3): two where it is a long or a double, else one
 abbrev pub element_words : ElementType → ℕ
 element_words (elements.Primitive Long) = 2
 element_words (elements.Primitive Double) = 2
 element_words _ = 1
 
+-- the same of a type: an array takes one
 abbrev pub field_words : FieldType → ℕ
 field_words field = if field.dimensions == 0 then element_words field.element else 1
 
 -- how many words the arguments take, without `this`
 abbrev pub parameter_words : MethodType → ℕ
 parameter_words method = sum_by field_words method.parameters
+
+-- the units are a method descriptor, whose arguments take so many words
+abbrev pub HasWords : List ℕ → ℕ → Type 0
+HasWords units words =
+    (method : MethodType) × IsMethodType method × (units ≡ method_descriptor_of method) × (words ≡ parameter_words method)

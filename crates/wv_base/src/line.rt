@@ -1,5 +1,5 @@
 //! The line that tells a broken rule.
-ghost use Rattle.std.specs.Prelude.{◌≡◌, ℕ, ◌≤◌, List, ◌++◌, take, decimal};
+ghost use Rattle.std.specs.Prelude.{◌≡◌, ℕ, ◌<◌, ◌≤◌, List, ◌++◌, take, decimal};
 ghost use Rattle.std.specs.Fmt.{is_char_start};
 ghost use Rattle.std.specs.Fmt.Cut.{floor_char_boundary};
 ghost use Rattle.wv_base.specs.Line.{shown_byte, member_text, index_text, place_text, refusal_text, refusal, kept_length, shown, Shows};
@@ -126,6 +126,7 @@ fn kept_of(out: &[u8; LINE], len: usize) -> usize
 /// within them.
 pub fn write_broken(broken: &Broken, out: &mut [u8; LINE]) -> usize
     ensures line { take result out.new ≡ refusal broken.now }
+    ensures some { 0 < result }
     ensures within { result ≤ 4096 }
 {
     let len = put_refusal(out, broken);

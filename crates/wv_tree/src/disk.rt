@@ -1,5 +1,7 @@
 //! Folders and files of the system, without following links in them.
 ghost use Rattle.std.specs.Prelude.{◌≤◌, ◌+◌, IfOk, OnOk, vec_len};
+ghost use Rattle.std.specs.IoError.{error_kind};
+ghost use Rattle.wv_tree.specs.Fault.{TellsMemory};
 ghost use Rattle.wv_tree.specs.Tree.{IsAscending, path_bytes};
 
 use crate::fault::IoFault;
@@ -15,6 +17,8 @@ const MOST_NESTED: usize = 64;
 const PIECE: usize = 8192;
 
 impl From<io::Error> for IoFault {
+    ghost from_gives = { λ error fault. TellsMemory (error_kind error) fault };
+
     fn from(error: io::Error) -> IoFault {
         if error.kind() == ErrorKind::OutOfMemory {
             IoFault::Memory

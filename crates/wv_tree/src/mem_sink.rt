@@ -1,7 +1,7 @@
 //! A sink in memory that fails at chosen calls.
 ghost use Rattle.std.specs.Prelude.{◌≡◌, ◌↔◌, ◌+◌, ◌<◌, ◌≤◌, ◌⊎◌, [], length, Some, OnOk, OnErr, IfOk, IsErr, vec_len, vec_capacity};
 ghost use Rattle.wv_tree.specs.Fault.{HasSinkCause};
-ghost use Rattle.wv_tree.specs.Sink.{with_bytes, AddsFirst};
+ghost use Rattle.wv_tree.specs.Sink.{with_bytes, AddsFirst, IsOver};
 
 use crate::fault::SinkFault;
 use crate::plan::Plan;
@@ -53,11 +53,13 @@ impl Sink for MemSink {
 
     fn write(&mut self, bytes: &[u8]) -> Result<(), SinkFault>
         ensures failed { IsErr result ↔ (FailsNext self.old.plan
-            ⊎ (self.old.capacity < vec_len self.old.bytes + length bytes.now)) }
+            ⊎ IsOver self.old.capacity bytes.now (⟦<MemSink as Sink>⟧.told self.old)) }
         ensures calls { CountsCall self.old.plan self.new.plan }
         ensures capacity { self.new.capacity ≡ self.old.capacity }
         ensures ok { OnOk result (⟦<MemSink as Sink>⟧.told self.new
             ≡ with_bytes bytes.now (⟦<MemSink as Sink>⟧.told self.old)) }
+        ensures unchanged { OnErr result
+            (⟦<MemSink as Sink>⟧.told self.new ≡ ⟦<MemSink as Sink>⟧.told self.old) }
         ensures err { OnErr result (AddsFirst bytes.now
             (⟦<MemSink as Sink>⟧.told self.old) (⟦<MemSink as Sink>⟧.told self.new)) }
         ensures cause { HasSinkCause result self.old.plan.faults self.new.plan.faults }

@@ -4,7 +4,8 @@ use crate::fault::PlainFault;
 use crate::reader::{Reader, plain};
 use std::alloc::Global;
 use wv_base::{
-    Items, Name, PoolEntry, is_field_name, is_method_name,
+    Items, Name, PoolEntry, is_class_constant, is_field_descriptor, is_field_name,
+    is_method_descriptor, is_method_name,
 
 };
 
@@ -183,7 +184,3 @@ pub(crate) fn read_pool(
     }
     Ok(entries)
 }
-
-fn is_class_constant(_n: &Name) -> bool { true }
-fn is_field_descriptor(_n: &Name) -> bool { true }
-fn is_method_descriptor(_n: &Name) -> bool { true }

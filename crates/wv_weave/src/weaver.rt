@@ -68,8 +68,8 @@ fn broken(
 
 /// The refusal of a form that isn't built yet.
 fn out_of_form(alloc: Global, path: &str) -> Result<WeaveFault, Memory> {
-    let none = text(alloc, "-")?;
-    broken(alloc, Rule::OutOfForm, path, None, none, text(alloc, "-")?)
+    let broken = Broken::at_file(alloc, Rule::OutOfForm, path)?;
+    Ok(WeaveFault::Broken(broken))
 }
 
 /// The refusal of a file that doesn't begin as a class file.

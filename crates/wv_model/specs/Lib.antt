@@ -1,0 +1,16 @@
+pub mod Machine
+pub mod Corresponds
+pub mod Simulates
+pub mod Schedules
+pub mod Domain
+pub mod Effect
+pub mod Frame
+pub mod Control
+pub mod Course
+pub mod Step
+pub mod FrameRelation
+pub mod FrameLaws
+pub mod Lifted
+pub mod Typing
+pub mod Toy
+pub mod Threads

@@ -1,0 +1,13 @@
+//! The top call: what the program does, over any outside.
+#![tactic(auto)]
+
+mod put;
+mod reading;
+mod rules;
+mod status;
+mod summary;
+mod top;
+mod words;
+
+pub use top::loader;
+pub use status::Status;

@@ -1,0 +1,70 @@
+//! The top call.
+ghost use Rattle.std.specs.Prelude.{◌≡◌, OnErr};
+ghost use Rattle.wv_top.specs.Words.{command_of, texts};
+ghost use Rattle.wv_top.specs.Ends.{FitsWords, TellsReading, TellsWriting, KeepsOutlet};
+
+use crate::put::put_files;
+use crate::reading::read_folder;
+use crate::rules::weave_reading;
+use crate::status::Status;
+use crate::summary::summary_line;
+use crate::words::command_of;
+use std::alloc::Global;
+use wv_base::{LINE, write_broken};
+use wv_tree::{IoFault, Outlet, Sink, Tree};
+use wv_weave::WeaveFault;
+
+const USAGE: &[u8] = b"usage: loader weave|run|list FOLDER [options] | gen NUMBER SIZE --out DIR\n";
+
+/// Does what the words say, of which the first is the program's name: `weave FOLDER --out DIR` reads
+/// the folder, weaves it, puts the written classes and writes one summary line.
+///
+/// Everything is read before a rule is asked, and every rule is asked before a file is put.
+pub fn loader<T: Tree, O: Outlet, S: Sink>(
+    alloc: Global,
+    words: &[String],
+    tree: &mut T,
+    outlet: &mut O,
+    sink: &mut S,
+) -> Status
+    ensures words { FitsWords (command_of (texts words.now)) result }
+    ensures reading { TellsReading result (T.faults tree.old) (T.faults tree.new) }
+    ensures writing { TellsWriting result (O.faults outlet.old) (O.faults outlet.new) (S.faults sink.old) (S.faults sink.new) }
+    ensures outlet { KeepsOutlet result outlet.old outlet.new }
+{
+    let Some(command) = command_of(words) else {
+        return match sink.write(USAGE) {
+            Ok(()) => Status::Usage,
+            Err(_) => Status::WriteFault,
+        };
+    };
+    let reading = match read_folder(alloc, tree, command.folder) {
+        Ok(reading) => reading,
+        Err(IoFault::Failed) => return Status::ReadFault,
+        Err(IoFault::Memory) => return Status::Memory,
+    };
+    let woven = match weave_reading(alloc, &reading) {
+        Ok(woven) => woven,
+        Err(WeaveFault::Broken(broken)) => {
+            let mut line = [0; LINE];
+            let length = write_broken(&broken, &mut line);
+            return match sink.write(&line[..length]) {
+                Ok(()) => Status::Refused,
+                Err(_) => Status::WriteFault,
+            };
+        }
+        Err(WeaveFault::Memory) => return Status::Memory,
+    };
+    let Ok(line) = summary_line(alloc, &woven) else {
+        return Status::Memory;
+    };
+    match put_files(alloc, outlet, command.out, &woven.files) {
+        Ok(()) => {}
+        Err(IoFault::Failed) => return Status::WriteFault,
+        Err(IoFault::Memory) => return Status::Memory,
+    }
+    match sink.write(line.as_bytes()) {
+        Ok(()) => Status::Done,
+        Err(_) => Status::WriteFault,
+    }
+}
