@@ -36,15 +36,18 @@ IsTexts value texts = value ≡ array (items_of (map string texts))
 
 -- the value is one text, or a list of texts
 abbrev pub IsTextOrTexts : Data → List (List ℕ) → Type 0
-IsTextOrTexts value texts = IsTexts value texts ⊎ ((text : List ℕ) × IsText value text × (texts ≡ text ∷ []))
+IsTextOrTexts value texts = IsTexts value texts
+    ⊎ ((text : List ℕ) × IsText value text × (texts ≡ text ∷ []))
 
 -- the members are these keys, in their order, each with a value of the kind
 abbrev pub AreMembers : {A : Type 0} → (Data → A → Type 0) → Members → List (List ℕ × A) → Type 0
 AreMembers OfKind no_members [] = Unit {0}
 AreMembers OfKind no_members (entry ∷ entries) = ⊥
 AreMembers OfKind (member key value rest) [] = ⊥
-AreMembers OfKind (member key value rest) (entry ∷ entries) = (entry.0 ≡ key) × OfKind value entry.1 × AreMembers OfKind rest entries
+AreMembers OfKind (member key value rest) (entry ∷ entries) = (entry.0 ≡ key) × OfKind value entry.1
+    × AreMembers OfKind rest entries
 
 -- the value is the object of these keys, in their order, each with a value of the kind
 abbrev pub IsObjectOf : {A : Type 0} → (Data → A → Type 0) → Data → List (List ℕ × A) → Type 0
-IsObjectOf OfKind value entries = (members : Members) × (value ≡ object members) × AreMembers OfKind members entries
+IsObjectOf OfKind value entries = (members : Members) × (value ≡ object members)
+    × AreMembers OfKind members entries

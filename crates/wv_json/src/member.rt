@@ -38,6 +38,20 @@ pub fn read_texts_members(
     }
 }
 
+/// The keys of an object whose members are objects of texts, and the keys and texts of these, in the
+/// order of the keys' bytes. None where the value isn't one.
+pub fn read_text_tables(
+    alloc: Global,
+    value: &Value,
+) -> Result<Option<Items<(Text, Items<(Text, Text)>)>>, Memory>
+    ensures { IfOk result (IsRead (IsObjectOf (IsObjectOf IsText)) (view value.now)) }
+{
+    match value.as_object() {
+        Some(map) => text_tables(alloc, map),
+        None => Ok(None),
+    }
+}
+
 fn text_members(
     alloc: Global,
     map: &Map<String, Value>,
@@ -59,7 +73,8 @@ fn texts_members(
     alloc: Global,
     map: &Map<String, Value>,
 ) -> Result<Option<Items<(Text, Items<Text>)>>, Memory>
-    ensures { IfOk result (IsRead (IsObjectOf IsTextOrTexts) (object (members_view map.now.entries))) }
+    ensures { IfOk result
+        (IsRead (IsObjectOf IsTextOrTexts) (object (members_view map.now.entries))) }
 {
     let mut entries = Items::new(alloc);
     for (key, value) in map {
@@ -69,4 +84,21 @@ fn texts_members(
         entries.push((Text::from_str(alloc, key.as_str())?, texts))?;
     }
     Ok(Some(entries))
+}
+
+fn text_tables(
+    alloc: Global,
+    map: &Map<String, Value>,
+) -> Result<Option<Items<(Text, Items<(Text, Text)>)>>, Memory>
+    ensures { IfOk result
+        (IsRead (IsObjectOf (IsObjectOf IsText)) (object (members_view map.now.entries))) }
+{
+    let mut tables = Items::new(alloc);
+    for (key, value) in map {
+        let Some(table) = read_text_members(alloc, value)? else {
+            return Ok(None);
+        };
+        tables.push((Text::from_str(alloc, key.as_str())?, table))?;
+    }
+    Ok(Some(tables))
 }

@@ -13,7 +13,8 @@ use std::alloc::Global;
 /// an object.
 pub fn read_object(alloc: Global, bytes: &[u8]) -> Result<Value, JsonError>
     ensures found { IfOk result (λ value. IsObjectText bytes.now (view value)) }
-    ensures wrong { result ≡ Err JsonError.Wrong → (value : Data) → IsObjectText bytes.now value → ⊥ }
+    ensures wrong { result ≡ Err JsonError.Wrong
+        → (value : Data) → IsObjectText bytes.now value → ⊥ }
 {
     match Value::from_slice(alloc, bytes) {
         Ok(value) => {

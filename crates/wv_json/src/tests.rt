@@ -1,6 +1,7 @@
 use crate::{
     Field, JsonError, field_bool, field_list, field_number, field_object, field_text, field_texts,
-    has_field, read_object, read_text_members, read_text_or_texts, read_texts, read_texts_members,
+    has_field, read_object, read_text_members, read_text_or_texts, read_text_tables, read_texts,
+    read_texts_members,
 };
 use std::test::Fail;
 
@@ -123,6 +124,13 @@ fn values_are_kept(rt: HostRuntime) -> Result<(), Fail> {
     let mapped = read_text_members(alloc, mappings)?.ok_or("mappings")?;
     for ((key, text), (wanted, of)) in mapped.as_slice().iter().zip(&[("x", "2"), ("y", "1")]) {
         assert_eq!(rt; (key.as_str(), text.as_str()), (*wanted, *of));
+    }
+    let tables = read_text_tables(alloc, &value)?;
+    assert!(rt; tables.is_none());
+    let refmap = read_object(alloc, br#"{"a/B":{"y":"1","x":"2"},"a/C":{}}"#).map_err(|_| "refmap")?;
+    let tables = read_text_tables(alloc, &refmap)?.ok_or("refmap")?;
+    for ((class, table), (wanted, len)) in tables.as_slice().iter().zip(&[("a/B", 2usize), ("a/C", 0)]) {
+        assert_eq!(rt; (class.as_str(), table.len()), (*wanted, *len));
     }
     assert!(rt; read_text_members(alloc, depends)?.is_none());
     assert!(rt; read_text_or_texts(alloc, depends)?.is_none());

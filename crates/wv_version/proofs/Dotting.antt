@@ -2,6 +2,7 @@
 use Rattle.std.proofs.Common.{◌≡◌, ℕ, ◌<◌, ◌||◌, ◌==◌, Bool, true, false, IsTrue, List, [], ◌∷◌, ◌++◌, length, nat_lt, Option, Some, None, IfSome, MatchOption, refl, ap, sym, ◌∙◌, subst, arith, lit<}
 use Rattle.std.specs.List.{list_all}
 use Rattle.std.proofs.lemmas.Bool.Decides.{nat_tests}
+use Rattle.std.proofs.lemmas.List.{append-nil}
 use Rattle.wv_version.specs.declared.dotted.Dotted.{Dotted}
 use Rattle.wv_version.specs.declared.identifier.Identifier.{Identifier}
 use Rattle.wv_version.specs.Cut.{led_by, IsFree, IsCut}
@@ -117,3 +118,23 @@ dotted_same text d e g h =
 pub pre_release-none : (text : List ℕ) (p : Option (List Identifier)) → pre_release_of text ≡ None → IsPreReleasePart (Some text) p → ⊥
 pre_release-none text None none h = h
 pre_release-none text (Some xs) none h = some_none (pre_release_of-only text xs h) none
+
+not_free : (xs ys : List ℕ) → IsFree 43 (xs ++ 43 ∷ ys) → ⊥
+not_free [] ys free = free.0 refl
+not_free (x ∷ xs) ys free = not_free xs ys free.1
+
+-- a build part may follow a text that has none
+pub with_build : (text build : List ℕ) (d : Dotted) → IsDotted text d → IsFree 43 text → IsBuild build → IsDotted (text ++ 43 ∷ build) d
+with_build text build d h free of_build = led h.build h.whole
+  where
+    led : (old : Option (List ℕ)) → text ≡ (h.numbers ++ led_by 45 h.pre_release) ++ led_by 43 old → IsDotted (text ++ 43 ∷ build) d
+    led (Some old) whole = absurd (not_free (h.numbers ++ led_by 45 h.pre_release) old (subst (IsFree 43) whole free))
+    led None whole = record {
+      numbers = h.numbers;
+      pre_release = h.pre_release;
+      build = Some build;
+      whole = ap (λ xs. xs ++ 43 ∷ build) (whole ∙ append-nil (h.numbers ++ led_by 45 h.pre_release));
+      of_numbers = h.of_numbers;
+      of_pre_release = h.of_pre_release;
+      of_build = of_build
+    }

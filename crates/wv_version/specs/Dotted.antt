@@ -58,6 +58,10 @@ IsSame v w = HasSameNumbers v.numbers w.numbers × (v.pre_release ≡ w.pre_rele
 abbrev pub IsAtMost : Dotted → Dotted → Type 0
 IsAtMost v w = IsLower v w ⊎ IsSame v w
 
+-- v is from low up to but without high
+abbrev pub IsBetween : Dotted → Dotted → Dotted → Type 0
+IsBetween low v high = IsAtMost low v × IsLower v high
+
 -- the version with one more number, 0
 abbrev pub with_zero : Dotted → Dotted
 with_zero v = record { numbers = v.numbers ++ 0 ∷ []; pre_release = v.pre_release }

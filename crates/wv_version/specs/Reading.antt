@@ -35,7 +35,8 @@ abbrev pub is_word : List ℕ → Bool
 is_word text = nat_lt 0 (length text) && list_all is_word_byte text
 
 abbrev pub identifier_of : List ℕ → Option Identifier
-identifier_of text = if is_numeral text then Some (Number (digits_value 10 text)) else (if is_word text then Some (Word text) else None)
+identifier_of text = if is_numeral text then Some (Number (digits_value 10 text))
+    else (if is_word text then Some (Word text) else None)
 
 abbrev pub identifiers_of : List ℕ → Option (List Identifier)
 identifiers_of text = each_of identifier_of (parts 46 text)

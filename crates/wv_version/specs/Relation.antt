@@ -20,7 +20,8 @@ Holds AtMost v w = IsAtMost v w
 Holds Above v w = IsLower w v
 Holds AtLeast v w = IsAtMost w v
 Holds Caret v w = IsAtMost w v × (slice_index v.numbers 0 ≡ slice_index w.numbers 0)
-Holds Tilde v w = IsAtMost w v × (slice_index v.numbers 0 ≡ slice_index w.numbers 0) × (slice_index v.numbers 1 ≡ slice_index w.numbers 1)
+Holds Tilde v w = IsAtMost w v × (slice_index v.numbers 0 ≡ slice_index w.numbers 0)
+    × (slice_index v.numbers 1 ≡ slice_index w.numbers 1)
 
 -- no sign begins the text
 abbrev pub HasNoSign : List ℕ → Type 0

@@ -17,7 +17,8 @@ pub(crate) fn cut(text: &str, mark: char) -> (&str, Option<&str>)
 /// What stands behind `mark` where the text begins with it.
 pub(crate) fn behind(text: &str, mark: char) -> Option<&str>
     requires { mark < 128 }
-    ensures { MatchOption result ((rest : List ℕ) → text.now ≢ mark ∷ rest) (λ rest. text.now ≡ mark ∷ rest.now) }
+    ensures { MatchOption result ((rest : List ℕ) → text.now ≢ mark ∷ rest)
+        (λ rest. text.now ≡ mark ∷ rest.now) }
 {
     text.strip_prefix(mark)
 }

@@ -27,7 +27,8 @@ impl Dotted {
     /// The version that the text spells, where it has the dotted form.
     pub(crate) fn read(alloc: Global, text: &str) -> Result<Option<Dotted>, Memory>
         ensures found { IfOk result (λ read. IfSome read (IsDotted text.now)) }
-        ensures none { IfOk result (λ read. IfNone read ((other : Dotted) → IsDotted text.now other → ⊥)) }
+        ensures none { IfOk result (λ read. IfNone read
+            ((other : Dotted) → IsDotted text.now other → ⊥)) }
     {
         let (text, build) = cut(text, '+');
         let (numbers, pre_release) = cut(text, '-');
@@ -80,7 +81,8 @@ fn number_at(numbers: &[u64], place: usize) -> u64
 
 /// Whether a build part is one or more letters, digits, dashes and dots, where there is one.
 fn is_build_part(part: Option<&str>) -> bool
-    ensures { MatchOption (option_copied part.entry) (IsTrue result) (λ part. result ≡ is_build part) }
+    ensures { MatchOption (option_copied part.entry) (IsTrue result)
+        (λ part. result ≡ is_build part) }
 {
     part.is_none_or(|part| is_build(part))
 }
@@ -107,8 +109,8 @@ fn read_pre_release(alloc: Global, text: &str) -> Result<Option<Items<Identifier
 
 /// By the first number that differs, where a missing one counts as 0.
 fn compare_numbers(numbers: &[u64], other: &[u64]) -> Ordering
-    ensures { MatchOrdering result (IsNumbersLower numbers.now other.now) (HasSameNumbers numbers.now other.now)
-        (IsNumbersLower other.now numbers.now) }
+    ensures { MatchOrdering result (IsNumbersLower numbers.now other.now)
+        (HasSameNumbers numbers.now other.now) (IsNumbersLower other.now numbers.now) }
 {
     for place in 0..numbers.len().max(other.len()) {
         let order = number_at(numbers, place).cmp(&number_at(other, place));

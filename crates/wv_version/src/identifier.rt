@@ -36,8 +36,8 @@ impl Identifier {
 
     /// Numbers by value and below words, words by their bytes.
     pub(crate) fn compare(&self, other: &Identifier) -> Ordering
-        ensures { MatchOrdering result (IsIdentifierLower self.now other.now) (self.now ≡ other.now)
-            (IsIdentifierLower other.now self.now) }
+        ensures { MatchOrdering result (IsIdentifierLower self.now other.now)
+            (self.now ≡ other.now) (IsIdentifierLower other.now self.now) }
     {
         match (self, other) {
             (Identifier::Number(number), Identifier::Number(other)) => number.cmp(other),
@@ -83,8 +83,8 @@ pub(crate) fn read_identifiers(
 
 /// By the first identifier that differs. A front of a list is less than the list.
 pub(crate) fn compare_identifiers(list: &[Identifier], other: &[Identifier]) -> Ordering
-    ensures { MatchOrdering result (IsListLower IsIdentifierLower list.now other.now) (list.now ≡ other.now)
-        (IsListLower IsIdentifierLower other.now list.now) }
+    ensures { MatchOrdering result (IsListLower IsIdentifierLower list.now other.now)
+        (list.now ≡ other.now) (IsListLower IsIdentifierLower other.now list.now) }
 {
     for (left, right) in list.iter().zip(other) {
         let order = left.compare(right);

@@ -14,7 +14,7 @@ mod version;
 
 pub use dotted::Dotted;
 pub use identifier::Identifier;
-pub use laws::{bounds, one_reading, pre_releases, total_preorder};
+pub use laws::{bounds, build_parts, one_reading, pre_releases, total_preorder};
 pub use predicate::Predicate;
 pub use relation::Relation;
 pub use term::Term;

@@ -21,7 +21,8 @@ impl Predicate {
     /// let pass. None exactly where the text is outside the grammar.
     pub fn read(alloc: Global, text: &Text) -> Result<Option<Predicate>, Memory>
         ensures found { IfOk result (λ read. IfSome read (IsPredicate text.now)) }
-        ensures none { IfOk result (λ read. IfNone read ((predicate : Predicate) → IsPredicate text.now predicate → ⊥)) }
+        ensures none { IfOk result (λ read. IfNone read
+            ((predicate : Predicate) → IsPredicate text.now predicate → ⊥)) }
     {
         let mut terms = Items::new(alloc);
         let mut rest = Some(text.as_str());

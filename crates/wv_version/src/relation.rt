@@ -26,7 +26,8 @@ impl Relation {
     /// The relation whose sign begins the text, and what stands behind the sign. `<=` and `>=` come
     /// before `<` and `>`.
     pub(crate) fn split(text: &str) -> Option<(Relation, &str)>
-        ensures { MatchOption result (HasNoSign text.now) (λ found. IsSigned text.now found.0 found.1.now) }
+        ensures { MatchOption result (HasNoSign text.now)
+            (λ found. IsSigned text.now found.0 found.1.now) }
     {
         if let Some(rest) = behind(text, '<') {
             return Some(match behind(rest, '=') {

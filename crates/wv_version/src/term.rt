@@ -28,7 +28,8 @@ impl Term {
     /// The term that the text spells. None where a sign stands before no dotted version.
     pub(crate) fn read(alloc: Global, text: &str) -> Result<Option<Term>, Memory>
         ensures found { IfOk result (λ read. IfSome read (IsTerm text.now)) }
-        ensures none { IfOk result (λ read. IfNone read ((term : Term) → IsTerm text.now term → ⊥)) }
+        ensures none { IfOk result (λ read. IfNone read
+            ((term : Term) → IsTerm text.now term → ⊥)) }
     {
         if text == "*" {
             return Ok(Some(Term::Any));
@@ -82,7 +83,8 @@ fn begins_with(version: &Dotted, numbers: &[u64]) -> bool
 /// The numbers before a wildcard, where the text has that form.
 fn read_wildcard(alloc: Global, text: &str) -> Result<Option<Items<u64>>, Memory>
     ensures found { IfOk result (λ read. IfSome read (IsWildcard text.now)) }
-    ensures none { IfOk result (λ read. IfNone read ((numbers : List ℕ) → IsWildcard text.now numbers → ⊥)) }
+    ensures none { IfOk result (λ read. IfNone read
+        ((numbers : List ℕ) → IsWildcard text.now numbers → ⊥)) }
 {
     match before_wildcard(text) {
         Some(front) => read_numbers(alloc, front),
@@ -92,7 +94,8 @@ fn read_wildcard(alloc: Global, text: &str) -> Result<Option<Items<u64>>, Memory
 
 /// What stands before a dot and `x`, `X` or `*` at the end.
 fn before_wildcard(text: &str) -> Option<&str>
-    ensures { MatchOption result (HasNoWildcard text.now) (λ front. IsBeforeWildcard text.now front.now) }
+    ensures { MatchOption result (HasNoWildcard text.now)
+        (λ front. IsBeforeWildcard text.now front.now) }
 {
     match text.as_bytes() {
         [.., b'.', b'x' | b'X' | b'*'] => Some(&text[..text.len() - 2]),
