@@ -127,9 +127,15 @@ fn values_are_kept(rt: HostRuntime) -> Result<(), Fail> {
     }
     let tables = read_text_tables(alloc, &value)?;
     assert!(rt; tables.is_none());
-    let refmap = read_object(alloc, br#"{"a/B":{"y":"1","x":"2"},"a/C":{}}"#).map_err(|_| "refmap")?;
+    let refmap = read_object(alloc, br#"{"a/B":{"y":"1","x":"2"},"a/C":{}}"#).map_err(
+        |_| "refmap",
+    )?;
     let tables = read_text_tables(alloc, &refmap)?.ok_or("refmap")?;
-    for ((class, table), (wanted, len)) in tables.as_slice().iter().zip(&[("a/B", 2usize), ("a/C", 0)]) {
+    for ((class, table), (wanted, len)) in tables
+        .as_slice()
+        .iter()
+        .zip(&[("a/B", 2usize), ("a/C", 0)])
+    {
         assert_eq!(rt; (class.as_str(), table.len()), (*wanted, *len));
     }
     assert!(rt; read_text_members(alloc, depends)?.is_none());
