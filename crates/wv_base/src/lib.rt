@@ -50,3 +50,6 @@ pub use rule::Rule;
 pub use side::Side;
 pub use sqlite_items::{Boxed, Items};
 pub use text::Text;
+
+#[cfg(test)]
+mod tests;
