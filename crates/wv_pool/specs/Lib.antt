@@ -3,3 +3,4 @@ pub mod Entries
 pub mod Layout
 pub mod References
 pub mod Facts
+pub mod Constants

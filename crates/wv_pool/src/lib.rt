@@ -6,8 +6,10 @@ mod fact_table;
 mod facts;
 mod layout;
 mod length;
+mod pool;
 mod reference;
 mod soundness;
 mod stop;
 
+pub use pool::Pool;
 pub use soundness::first_break;
