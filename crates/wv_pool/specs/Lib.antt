@@ -4,3 +4,4 @@ pub mod Layout
 pub mod References
 pub mod Facts
 pub mod Constants
+pub mod Answers

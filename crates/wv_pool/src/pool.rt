@@ -6,15 +6,17 @@ ghost use Rattle.wv_pool.specs.References.{entry_of, text_of, IsPool};
 ghost use Rattle.wv_pool.specs.Constants.{class_name, named_pair, constant_of};
 
 use crate::reference::entry_of;
+use crate::writing::pool_to_bytes;
+use std::alloc::Global;
 use std::marker::Model;
-use wv_base::{Name, PoolEntry};
+use wv_base::{Bytes, Items, Memory, Name, PoolEntry};
 
 /// A constant pool in which each number names what its place needs (JVM Specification 4.4).
 /// Contracts see the list of its entries, the first of which has number 1; a long or a double is
 /// followed by an entry that isn't usable.
 #[derive(Debug, Drop)]
 pub struct Pool {
-    entries: Vec<PoolEntry>,
+    entries: Items<PoolEntry>,
 }
 
 impl Model for Pool {
@@ -24,12 +26,28 @@ impl Model for Pool {
 
     ghost Value = { List PoolEntry };
 
-    ghost view = { λ p. p.entries.items };
+    ghost view = { λ p. p.entries };
 
-    ghost invariant = { λ p. IsPool p.entries.items };
+    ghost invariant = { λ p. IsPool p.entries };
 }
 
 impl Pool {
+    /// The pool of these entries, in which each number names what its place needs, as `read_layout` and
+    /// `first_break` show.
+    pub fn from_entries(entries: Items<PoolEntry>) -> Pool
+        requires { IsPool entries }
+        ensures { result ≡ entries }
+    {
+        Pool { entries }
+    }
+
+    /// The bytes of the pool, from its count on.
+    pub fn write(&self, alloc: Global) -> Result<Bytes, Memory>
+        ensures { IfOk result (λ bytes. bytes ≡ pool_bytes self.now) }
+    {
+        Ok(Bytes::from_vec(pool_to_bytes(alloc, self.entries())?))
+    }
+
     /// The entries, the one with number 1 first.
     pub fn entries(&self) -> &[PoolEntry]
         ensures entries { result.now ≡ self.now }
