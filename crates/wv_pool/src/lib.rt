@@ -16,3 +16,6 @@ mod writing;
 pub use pool::Pool;
 pub use reading::{read_layout, read_pool};
 pub use soundness::first_break;
+
+#[cfg(test)]
+mod tests;
