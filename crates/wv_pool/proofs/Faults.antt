@@ -329,7 +329,7 @@ unfolding pool_at
 counted n rest small some =
     ap (λ (r : Result (ℕ × List ℕ) ℕ). r >>= λ count. cond (count.0 == 0) (Err (length count.1 + 1)) (slots_in false (count.0 - 1) count.1)) (number_again_at n rest small) ∙ rw some refl
 
-pool_stops : (bytes : List ℕ) (left : ℕ) → IsBytes bytes → pool_at bytes ≡ Err left → Stops pool_at PoolSpelled bytes left
+pub pool_stops : (bytes : List ℕ) (left : ℕ) → IsBytes bytes → pool_at bytes ≡ Err left → Stops pool_at PoolSpelled bytes left
 unfolding pool_at
 pool_stops bytes left fits e = elim (bind_err (fixed 2 number bytes) (λ count. cond (count.0 == 0) (Err (length count.1 + 1)) (slots_in false (count.0 - 1) count.1)) left e) [
   | inl ended ↦

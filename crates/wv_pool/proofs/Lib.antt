@@ -6,3 +6,4 @@ pub mod TextFaults
 pub mod Faults
 pub mod FactTables
 pub mod Entire
+pub mod PoolReads

@@ -6,8 +6,16 @@ mod fact_table;
 mod facts;
 mod layout;
 mod length;
+mod pool;
+mod reading;
 mod reference;
 mod soundness;
 mod stop;
+mod writing;
 
+pub use pool::Pool;
+pub use reading::{read_layout, read_pool};
 pub use soundness::first_break;
+
+#[cfg(test)]
+mod tests;
