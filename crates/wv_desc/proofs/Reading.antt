@@ -7,7 +7,7 @@ use Rattle.std.proofs.lemmas.List.Sums.{sum_by_push}
 use Rattle.std.proofs.lemmas.List.Concat.{flat_map-append}
 use Rattle.wv_base.specs.declared.descriptor.FieldType.{FieldType}
 use Rattle.wv_base.specs.declared.descriptor.MethodType.{MethodType}
-use Rattle.wv_base.specs.Descriptor.{descriptor_of, result_descriptor, field_words, IsFieldType, IsFieldDescriptor, IsResult, IsMethodDescriptor}
+use Rattle.wv_base.specs.Descriptor.{descriptor_of, result_descriptor, field_words, IsFieldType, IsFieldDescriptor, IsMethodDescriptor}
 use Rattle.wv_base.specs.DescriptorReading.{field_at, IsParametersFront}
 use Rattle.wv_base.proofs.FieldTypes.{some_is}
 use Rattle.wv_base.proofs.MethodTypes.{front_is, words_read, none_read, descriptor_cancel, method_cancel, HasParameters, read_on, closes, fails, method_front, parameters_same}
@@ -92,8 +92,7 @@ ends units fields rest after has closed = closes has.front fields rest after (su
 
 method_is : (units after : List ℕ) (fields : List FieldType) (has : HasRead units fields (CLOSE ∷ after)) (method : MethodType) → method.parameters ≡ fields → HasResult after method.result → IsMethodTypeOf units method
 method_is units after fields has method same result =
-    let front : IsParametersFront has.front method.parameters after = rw same (ends units fields (CLOSE ∷ after) after has refl) in
-    (
+    let front : IsParametersFront has.front method.parameters after = rw same (ends units fields (CLOSE ∷ after) after has refl) in (
       (front.each, result.0),
       has.begun ∙ ap (λ (t : List ℕ). OPEN ∷ t) (front.spelled ∙ ap (λ (t : List ℕ). flat_map descriptor_of method.parameters ++ CLOSE ∷ t) result.1),
     )

@@ -25,8 +25,6 @@ pub(crate) enum ElementFront<'a> {
 }
 
 impl<'a> ElementFront<'a> {
-    ghost use Rattle.wv_desc.specs.Front.{element_of};
-
     fn to_type(self, alloc: Global) -> Result<ElementType, Memory>
         ensures { IfOk result (λ element. element ≡ element_of self.entry) }
     {
@@ -45,8 +43,6 @@ pub(crate) struct FieldFront<'a> {
 }
 
 impl<'a> FieldFront<'a> {
-    ghost use Rattle.wv_desc.specs.Front.{field_of};
-
     pub(crate) fn to_type(self, alloc: Global) -> Result<FieldType, Memory>
         ensures { IfOk result (λ field. field ≡ field_of self.entry) }
     {
@@ -97,7 +93,10 @@ fn element_front(units: &[u16]) -> Option<(ElementFront<'_>, &[u16])>
             Some((ElementFront::Class(name), rest))
         }
         [letter, rest @ ..] => {
-            Some((ElementFront::Primitive(Primitive::of_letter(*letter)?), rest))
+            Some((
+                ElementFront::Primitive(Primitive::of_letter(*letter)?),
+                rest,
+            ))
         }
     }
 }
@@ -111,5 +110,11 @@ pub(crate) fn field_front(units: &[u16]) -> Option<(FieldFront<'_>, &[u16])>
     let count = bracket_count(units);
     let dimensions = u8::try_from(count).ok()?;
     let (element, rest) = element_front(&units[count..])?;
-    Some((FieldFront { element, dimensions }, rest))
+    Some((
+        FieldFront {
+            element,
+            dimensions,
+        },
+        rest,
+    ))
 }

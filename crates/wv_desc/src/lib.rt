@@ -9,6 +9,5 @@ pub use field::field_type;
 pub use method::{method_type, words};
 pub use wv_base::{ElementType, FieldType, MethodType, Primitive};
 
-
 #[cfg(test)]
 mod tests;

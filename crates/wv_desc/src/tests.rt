@@ -73,10 +73,22 @@ fn platform_methods(rt: HostRuntime) -> Result<(), Fail> {
         ("(Ljava/lang/Object;)Z", "boolean java/lang/Object", 1),
         ("(I)C", "char int", 1),
         ("(II)Ljava/lang/String;", "java/lang/String int int", 2),
-        ("(Ljava/lang/String;)Ljava/lang/String;", "java/lang/String java/lang/String", 1),
+        (
+            "(Ljava/lang/String;)Ljava/lang/String;",
+            "java/lang/String java/lang/String",
+            1,
+        ),
         ("(J)Ljava/lang/String;", "java/lang/String long", 2),
-        ("(Z)Ljava/lang/StringBuilder;", "java/lang/StringBuilder boolean", 1),
-        ("(C)Ljava/lang/StringBuilder;", "java/lang/StringBuilder char", 1),
+        (
+            "(Z)Ljava/lang/StringBuilder;",
+            "java/lang/StringBuilder boolean",
+            1,
+        ),
+        (
+            "(C)Ljava/lang/StringBuilder;",
+            "java/lang/StringBuilder char",
+            1,
+        ),
         ("(J)V", "void long", 2),
         ("(Ljava/lang/String;)V", "void java/lang/String", 1),
         ("(Ljava/lang/String;I)V", "void java/lang/String int", 2),
@@ -89,9 +101,21 @@ fn platform_methods(rt: HostRuntime) -> Result<(), Fail> {
         ("(D)J", "long double", 2),
         ("(J)D", "double long", 2),
         ("(Ljava/lang/String;Z)V", "void java/lang/String boolean", 2),
-        ("(Ljava/lang/String;ZI)V", "void java/lang/String boolean int", 3),
-        ("(Ljava/lang/String;ZJ)V", "void java/lang/String boolean long", 4),
-        ("(Ljava/lang/String;ZD)V", "void java/lang/String boolean double", 4),
+        (
+            "(Ljava/lang/String;ZI)V",
+            "void java/lang/String boolean int",
+            3,
+        ),
+        (
+            "(Ljava/lang/String;ZJ)V",
+            "void java/lang/String boolean long",
+            4,
+        ),
+        (
+            "(Ljava/lang/String;ZD)V",
+            "void java/lang/String boolean double",
+            4,
+        ),
         (
             "(Ljava/lang/String;ZLjava/lang/Object;)V",
             "void java/lang/String boolean java/lang/Object",
@@ -124,7 +148,9 @@ fn cut_descriptors(rt: HostRuntime) -> Result<(), Fail> {
 
 #[test]
 fn other_names(rt: HostRuntime) -> Result<(), Fail> {
-    for text in ["(V)V", "()VV", "()La//b;", "([)V", "([V)V", "I", "(I", "()[V", "(La.b;)V"] {
+    for text in [
+        "(V)V", "()VV", "()La//b;", "([)V", "([V)V", "I", "(I", "()[V", "(La.b;)V",
+    ] {
         let name = Name::from_ascii(rt.alloc(), text)?;
         assert!(rt; method_type(rt.alloc(), &name)?.is_none(), "{text}");
     }
