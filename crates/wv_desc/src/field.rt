@@ -1,5 +1,5 @@
 //! The type that a field descriptor says.
-ghost use Rattle.std.specs.Prelude.{◌≡◌, ℕ, List, IfOk, IfSome, IfNone, Some};
+ghost use Rattle.std.specs.Prelude.{◌≡◌, IfOk, IfSome, IfNone, Some};
 ghost use Rattle.wv_base.specs.Descriptor.{IsFieldDescriptor};
 ghost use Rattle.wv_base.specs.declared.descriptor.FieldType.{FieldType};
 ghost use Rattle.wv_desc.specs.TypeOf.{IsFieldTypeOf};

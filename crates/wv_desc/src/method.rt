@@ -1,6 +1,6 @@
 //! The type that a method descriptor says.
 ghost use Rattle.std.specs.Prelude.{◌≡◌, ◌<◌, ◌^◌, ℕ, List, ◌∷◌, length, Option, IfOk, IfSome, IfNone, Some};
-ghost use Rattle.wv_base.specs.Descriptor.{field_words, parameter_words, result_descriptor, IsMethodDescriptor, IsResult};
+ghost use Rattle.wv_base.specs.Descriptor.{field_words, parameter_words, IsMethodDescriptor};
 ghost use Rattle.wv_base.specs.declared.descriptor.FieldType.{FieldType};
 ghost use Rattle.wv_base.specs.declared.descriptor.MethodType.{MethodType};
 ghost use Rattle.wv_desc.specs.TypeOf.{IsMethodTypeOf, HasResult};
