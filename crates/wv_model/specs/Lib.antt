@@ -14,3 +14,7 @@ pub mod Lifted
 pub mod Typing
 pub mod Toy
 pub mod Threads
+pub mod PlainPool
+pub mod PlainCode
+pub mod PlainTyping
+pub mod PlainClass
