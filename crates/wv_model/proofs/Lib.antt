@@ -8,3 +8,4 @@ pub mod Blocks
 pub mod EndsWell
 pub mod ThreadsLift
 pub mod Limit
+pub mod FirstFormExamples

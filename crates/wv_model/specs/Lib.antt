@@ -18,3 +18,7 @@ pub mod PlainPool
 pub mod PlainCode
 pub mod PlainTyping
 pub mod PlainClass
+pub mod FolderRead
+pub mod FirstForm
+pub mod MemberTable
+pub mod FirstFormExamples

@@ -1,0 +1,27 @@
+//! The first form that is woven, on small inputs. Nothing runs this.
+
+ghost use Rattle.std.specs.Prelude.{◌≡◌, IsFalse, IsTrue, codes};
+ghost use Rattle.wv_model.specs.FirstForm.{counts};
+ghost use Rattle.wv_model.specs.FirstFormExamples.{class_pool, class_pool_bytes, print_pool, print_seven, print_seven_bytes};
+ghost use Rattle.wv_model.specs.FolderRead.{is_read};
+ghost use Rattle.wv_model.specs.PlainCode.{SpellsCode};
+ghost use Rattle.wv_model.specs.PlainPool.{IsClass, pool_bytes};
+ghost use Rattle.wv_model.specs.PlainTyping.{HasTyping};
+
+/// The definitions on small inputs: a pool with its bytes, code with its bytes, code that has a typing where its stack
+/// is declared large enough, and paths that are read or not.
+pub fn first_form_examples()
+    ensures pool { pool_bytes class_pool ≡ class_pool_bytes }
+    ensures class { IsClass class_pool 1 (codes "app/E") }
+    ensures code { SpellsCode print_pool print_seven print_seven_bytes }
+    ensures typed { HasTyping 8 print_seven }
+    ensures typed_within { HasTyping 2 print_seven }
+    ensures untyped { HasTyping 1 print_seven → ⊥ }
+    ensures class_read { IsTrue (is_read (codes "game/app/Main.class")) }
+    ensures json_read { IsTrue (is_read (codes "mods/alpha/fabric.mod.json")) }
+    ensures module_unread { IsFalse (is_read (codes "game/module-info.class")) }
+    ensures signature_unread { IsFalse (is_read (codes "mods/alpha/META-INF/a.json")) }
+    ensures loose_unread { IsFalse (is_read (codes "mods/a.json")) }
+    ensures jar_unread { IsFalse (is_read (codes "mods/alpha/lib.jar")) }
+    ensures jar_counts { IsTrue (counts (codes "mods/alpha/lib.jar")) }
+{}
