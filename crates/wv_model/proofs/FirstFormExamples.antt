@@ -1,6 +1,5 @@
 -- The example's code has these bytes, and a typing where two words fit the stack.
-use Rattle.std.proofs.Common.{◌≡◌, ◌≤◌, ℕ, refl, arith, [], ◌∷◌, pos}
-use Rattle.std.specs.List.{AllZip}
+use Rattle.std.proofs.Common.{◌≤◌, ℕ, refl, arith, [], ◌∷◌, pos}
 use Rattle.wv_base.specs.declared.frame.VType.TheVariants as types
 use Rattle.wv_base.specs.declared.insn.Insn.TheVariants as insns
 use Rattle.wv_base.specs.Opcodes.{bipush, return, getstatic, invokevirtual}

@@ -9,3 +9,4 @@ pub mod EndsWell
 pub mod ThreadsLift
 pub mod Limit
 pub mod FirstFormExamples
+pub mod SmallClass

@@ -1,6 +1,6 @@
 -- The form that is built: five files, with one game class and one mixin that overwrites one method of it; and the first
 -- rule that a folder breaks (our own).
-use Rattle.std.specs.Prelude.{◌≡◌, ℕ, Bool, ◌||◌, IsTrue, ◌↔◌, ◌⊎◌, List, [], ◌∷◌, ◌++◌, map, codes, decimal, AllPairs, Contains, Option, Some, None}
+use Rattle.std.specs.Prelude.{◌≡◌, ℕ, Bool, ◌||◌, IsTrue, ◌↔◌, ◌⊎◌, List, [], ◌∷◌, ◌++◌, map, codes, decimal, AllPairs, Contains, Some, None}
 use Rattle.std.specs.List.{IsAmong}
 use Rattle.wv_base.specs.declared.broken.Broken.{Broken}
 use Rattle.wv_base.specs.declared.class_file.ClassFile.{ClassFile}

@@ -1,5 +1,5 @@
 -- The members of the class that an overwrite makes, and the file that it is written to (Mixin 0.8.5, @Overwrite).
-use Rattle.std.specs.Prelude.{◌≡◌, List, [], ◌∷◌, ◌++◌, if◌then◌else◌, map, Contains, codes, bytes_eq, Some, None, option_map, ◌⊎◌, ℕ}
+use Rattle.std.specs.Prelude.{◌≡◌, List, [], ◌∷◌, ◌++◌, if◌then◌else◌, map, Contains, codes, bytes_eq, None, option_map, ℕ}
 use Rattle.std.specs.List.{AllZip, AllByRecursion}
 use Rattle.wv_base.specs.declared.class_file.Body.{Body}
 use Rattle.wv_base.specs.declared.class_file.ClassFile.{ClassFile}

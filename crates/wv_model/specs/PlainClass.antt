@@ -1,6 +1,6 @@
 -- Plain classes, and what their bytes spell (JVM Specification chapter 4).
-use Rattle.std.specs.Prelude.{◌≡◌, ℕ, ◌+◌, ◌^◌, ◌<◌, ◌≤◌, false, List, [], ◌∷◌, ◌++◌, length, take, codes, AllPairs, Option, Some, None, IsSomeAnd, IsTrue, ◌⊎◌}
-use Rattle.std.specs.List.{AllByRecursion, AllZip, IsAmong, concat}
+use Rattle.std.specs.Prelude.{◌≡◌, ℕ, ◌+◌, ◌^◌, ◌<◌, ◌≤◌, false, List, [], ◌∷◌, ◌++◌, length, take, codes, AllPairs, Some, None, IsSomeAnd, IsTrue, ◌⊎◌}
+use Rattle.std.specs.List.{AllByRecursion, AllZip, concat}
 use Rattle.wv_base.specs.declared.class_file.Body.{Body}
 use Rattle.wv_base.specs.declared.class_file.ClassFile.{ClassFile}
 use Rattle.wv_base.specs.declared.class_file.Member.{Member}
@@ -11,7 +11,7 @@ use Rattle.wv_base.specs.declared.note.NamedElement.{NamedElement, out-NamedElem
 use Rattle.wv_base.specs.declared.note.Note.{Note}
 use Rattle.wv_base.specs.Names.{is_method_name}
 use Rattle.wv_model.specs.PlainPool.{u2, u4, pool_bytes, IsText, IsClass, IsPlainPool, NamesClass}
-use Rattle.wv_model.specs.PlainCode.{Role, Game, Mixin, class_name, special_names, IsPlainInsn, EndsWithReturn, SpellsBody}
+use Rattle.wv_model.specs.PlainCode.{Role, Game, Mixin, class_name, IsOrdinary, IsPlainInsn, EndsWithReturn, SpellsBody}
 use Rattle.wv_model.specs.PlainTyping.{Verifies}
 
 -- ---- Attributes
@@ -106,10 +106,10 @@ pub record SpellsMethod (role : Role) (pool : List PoolEntry) (method : Member) 
 abbrev pub method_flags : ℕ
 method_flags = 0x0009
 
--- the descriptors that methods have: a mixin's only the first one
-abbrev pub method_descriptors : Role → List (List ℕ)
-method_descriptors Game = codes "()V" ∷ codes "([Ljava/lang/String;)V" ∷ []
-method_descriptors Mixin = codes "()V" ∷ []
+-- the descriptor of a method, whatever its name: a mixin's has no parameter
+abbrev pub IsPlainDescriptor : Role → List ℕ → Type 0
+IsPlainDescriptor Game descriptor = (descriptor ≡ codes "()V") ⊎ (descriptor ≡ codes "([Ljava/lang/String;)V")
+IsPlainDescriptor Mixin descriptor = descriptor ≡ codes "()V"
 
 -- code of plain instructions that verifies, for a method with this descriptor
 pub record IsPlainBody (role : Role) (descriptor : List ℕ) (body : Body) : Type 0 where
@@ -121,8 +121,8 @@ pub record IsPlainBody (role : Role) (descriptor : List ℕ) (body : Body) : Typ
 pub record IsPlainMethod (role : Role) (method : Member) : Type 0 where
   pub flags : method.flags.0 ≡ method_flags
   pub name : IsTrue (is_method_name method.name)
-  pub ordinary : IsAmong special_names method.name → ⊥
-  pub descriptor : IsAmong (method_descriptors role) method.descriptor
+  pub ordinary : IsOrdinary method.name
+  pub descriptor : IsPlainDescriptor role method.descriptor
   pub code : IsSomeAnd method.body (IsPlainBody role method.descriptor)
 
 -- two methods of the same name and descriptor

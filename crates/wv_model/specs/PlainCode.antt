@@ -1,13 +1,13 @@
 -- Plain code: fourteen instructions, and how they are spelled (JVM Specification 4.7.3 and 6.5).
-use Rattle.std.specs.Prelude.{◌≡◌, ℕ, ◌+◌, ◌^◌, ◌<◌, ◌≤◌, ◌==◌, false, List, [], ◌∷◌, ◌++◌, length, codes, FitsSigned, MatchBool, ◌⊎◌}
-use Rattle.std.specs.List.{AllByRecursion, AllZip, IsAmong, concat}
+use Rattle.std.specs.Prelude.{◌≡◌, ◌≢◌, ℕ, ◌^◌, ◌<◌, ◌≤◌, ◌==◌, false, List, [], ◌∷◌, ◌++◌, length, codes, FitsSigned, MatchBool, ◌⊎◌}
+use Rattle.std.specs.List.{AllByRecursion, AllZip, concat}
 use Rattle.std.specs.Int.{w8, to_be_bytes, cast_unsigned}
 use Rattle.wv_base.specs.declared.class_file.Body.{Body}
 use Rattle.wv_base.specs.declared.class_file.PoolEntry.{PoolEntry}
 use Rattle.wv_base.specs.declared.constant.MemberReference.{MemberReference}
 use Rattle.wv_base.specs.declared.insn.Insn.{Insn}
 use Rattle.wv_base.specs.declared.insn.Insn.TheVariants as insns
-use Rattle.wv_base.specs.Opcodes.{iconst_0, iconst_1, iconst_2, iconst_3, iconst_4, iconst_5, bipush, pop, iadd, imul, return, getstatic, invokevirtual, invokestatic}
+use Rattle.wv_base.specs.Opcodes.{iconst_0, iconst_5, bipush, pop, iadd, imul, return, getstatic, invokevirtual, invokestatic}
 use Rattle.wv_model.specs.PlainPool.{u2, u4, IsField, IsMethod}
 
 -- the two classes of the form: the game's class, and the mixin
@@ -21,8 +21,9 @@ class_name Game = codes "app/Main"
 class_name Mixin = codes "alpha/mixin/MainMixin"
 
 -- the opcodes of plain code that have no operands
-abbrev pub plain_opcodes : List ℕ
-plain_opcodes = iconst_0 ∷ iconst_1 ∷ iconst_2 ∷ iconst_3 ∷ iconst_4 ∷ iconst_5 ∷ pop ∷ iadd ∷ imul ∷ return ∷ []
+abbrev pub IsPlainOpcode : ℕ → Type 0
+IsPlainOpcode op =
+    ((iconst_0 ≤ op) × (op ≤ iconst_5)) ⊎ (op ≡ pop) ⊎ (op ≡ iadd) ⊎ (op ≡ imul) ⊎ (op ≡ return)
 
 -- the field `System.out`
 abbrev pub system_out : MemberReference
@@ -33,19 +34,19 @@ system_out =
 abbrev pub println : MemberReference
 println = record { owner = codes "java/io/PrintStream"; name = codes "println"; descriptor = codes "(I)V" }
 
--- the classes whose methods plain code calls: the game's class, and a mixin also itself
-abbrev pub owners : Role → List (List ℕ)
-owners Game = class_name Game ∷ []
-owners Mixin = class_name Game ∷ class_name Mixin ∷ []
+-- a class whose methods plain code calls: the game's class, and a mixin also itself
+abbrev pub IsOwner : Role → List ℕ → Type 0
+IsOwner Game owner = owner ≡ class_name Game
+IsOwner Mixin owner = (owner ≡ class_name Game) ⊎ (owner ≡ class_name Mixin)
 
--- the special methods, which aren't called by their names (2.9)
-abbrev pub special_names : List (List ℕ)
-special_names = codes "<init>" ∷ codes "<clinit>" ∷ []
+-- the name of no special method (2.9)
+abbrev pub IsOrdinary : List ℕ → Type 0
+IsOrdinary name = (name ≢ codes "<init>") × (name ≢ codes "<clinit>")
 
 -- a method `()V` of these classes, by its reference alone: whether the class has it isn't asked
 pub record IsOwnMethod (role : Role) (method : MemberReference) : Type 0 where
-  pub owner : IsAmong (owners role) method.owner
-  pub name : IsAmong special_names method.name → ⊥
+  pub owner : IsOwner role method.owner
+  pub ordinary : IsOrdinary method.name
   pub descriptor : method.descriptor ≡ codes "()V"
 
 -- what a plain instruction with this opcode may refer to
@@ -57,7 +58,7 @@ IsPlainReference role op reference =
 
 -- the instructions of plain code in a class of the role
 abbrev pub IsPlainInsn : Role → Insn → Type 0
-IsPlainInsn role (insns.Plain op) = IsAmong plain_opcodes op
+IsPlainInsn role (insns.Plain op) = IsPlainOpcode op
 IsPlainInsn role (insns.Push op value) = (op ≡ bipush) × FitsSigned w8 value
 IsPlainInsn role (insns.Reference op owner name descriptor interface) =
     (interface ≡ false) × IsPlainReference role op (record { owner = owner; name = name; descriptor = descriptor })

@@ -2,6 +2,7 @@ use Rattle.std.proofs.Common.{refl, arith}
 use Rattle.wv_model.specs.FirstForm.{counts}
 use Rattle.wv_model.specs.FolderRead.{is_read}
 use Rattle.wv_model.proofs.FirstFormExamples.{print_seven-spelled, print_seven-typed}
+use Rattle.wv_model.proofs.SmallClass.{small_class-is_plain}
 use Rattle.wv_model.proofs.first_form.first_form_examples.Goals as goal
 
 pub returns-clause-class : goal.returns-clause-class
@@ -15,6 +16,12 @@ returns-clause-typed c = print_seven-typed 8 (omega arith)
 
 pub returns-clause-typed_within : goal.returns-clause-typed_within
 returns-clause-typed_within c = print_seven-typed 2 (omega arith)
+
+pub returns-clause-small_class : goal.returns-clause-small_class
+returns-clause-small_class c = small_class-is_plain
+
+pub returns-clause-no_class : goal.returns-clause-no_class
+returns-clause-no_class c = record { within = omega arith; front = refl; other = λ e. grind arith }
 
 pub returns-clause-class_read : goal.returns-clause-class_read
 unfolding is_read
