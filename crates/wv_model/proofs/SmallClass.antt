@@ -30,16 +30,31 @@ units_are_plain (unit ∷ text) h =
     (unit_is_plain unit parts.0, units_are_plain text parts.1)
 
 small_pool-plain : IsPlainPool small_pool
-small_pool-plain =
-    (omega arith,
-      ((codes "app/Main", refl, inl refl),
-      ((units_are_plain (codes "app/Main") refl, omega arith),
-      ((codes "java/lang/Object", refl, inl refl),
-      ((units_are_plain (codes "java/lang/Object") refl, omega arith),
-      ((units_are_plain (codes "f") refl, omega arith),
-      ((units_are_plain (codes "()V") refl, omega arith),
-      ((units_are_plain (codes "Code") refl, omega arith),
-      tt))))))))
+small_pool-plain = (
+  omega arith,
+  (
+    (codes "app/Main", refl, inl refl),
+    (
+      (units_are_plain (codes "app/Main") refl, omega arith),
+      (
+        (codes "java/lang/Object", refl, inl refl),
+        (
+          (units_are_plain (codes "java/lang/Object") refl, omega arith),
+          (
+            (units_are_plain (codes "f") refl, omega arith),
+            (
+              (units_are_plain (codes "()V") refl, omega arith),
+              (
+                (units_are_plain (codes "Code") refl, omega arith),
+                tt,
+              ),
+            ),
+          ),
+        ),
+      ),
+    ),
+  ),
+)
 
 small_attribute : IsCode small_pool small_body small_code
 small_attribute =
