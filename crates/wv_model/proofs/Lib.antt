@@ -10,3 +10,4 @@ pub mod ThreadsLift
 pub mod Limit
 pub mod FirstFormExamples
 pub mod SmallClass
+pub mod FirstPlace

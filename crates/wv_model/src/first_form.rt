@@ -1,9 +1,12 @@
-//! The first form that is woven, on small inputs. Nothing runs this.
+//! The first form that is woven: what its definitions say of small inputs, and that one rule is the first broken one.
+//! Nothing runs this.
 
-ghost use Rattle.std.specs.Prelude.{◌≡◌, [], ◌∷◌, IsFalse, IsTrue, codes};
-ghost use Rattle.wv_model.specs.FirstForm.{counts};
+ghost use Rattle.std.specs.Prelude.{◌≡◌, [], ◌∷◌, IsFalse, IsTrue, List, codes};
+ghost use Rattle.wv_base.specs.Folder.{File};
+ghost use Rattle.wv_base.specs.declared.broken.Broken.{Broken};
+ghost use Rattle.wv_model.specs.FirstForm.{FirstBroken, Unlimited, counts};
 ghost use Rattle.wv_model.specs.FirstFormExamples.{call_of_game, call_of_mixin, class_pool, class_pool_bytes, print_pool, print_seven, print_seven_bytes, small_class, small_class_bytes};
-ghost use Rattle.wv_model.specs.FolderRead.{is_read};
+ghost use Rattle.wv_model.specs.FolderRead.{PassesLimit, is_read};
 ghost use Rattle.wv_model.specs.MemberTable.{read_in_target};
 ghost use Rattle.wv_model.specs.PlainClass.{IsMagicFault, IsPlainClass};
 ghost use Rattle.wv_model.specs.PlainCode.{Game, SpellsCode};
@@ -30,4 +33,10 @@ pub fn first_form_examples()
     ensures loose_unread { IsFalse (is_read (codes "mods/a.json")) }
     ensures jar_unread { IsFalse (is_read (codes "mods/alpha/lib.jar")) }
     ensures jar_counts { IsTrue (counts (codes "mods/alpha/lib.jar")) }
+{}
+
+/// A folder has at most one first broken rule, also where a path passes the limit of bytes.
+pub fn one_first_broken()
+    ensures unlimited { (folder : List File) (first second : Broken) → FirstBroken Unlimited folder first → FirstBroken Unlimited folder second → first ≡ second }
+    ensures limited { (files folder : List File) (first second : Broken) → FirstBroken (PassesLimit files) folder first → FirstBroken (PassesLimit files) folder second → first ≡ second }
 {}

@@ -14,7 +14,7 @@ mod step;
 mod toy;
 mod typing;
 
-pub use first_form::first_form_examples;
+pub use first_form::{first_form_examples, one_first_broken};
 pub use frames::{FrameSimulation, starts_correspond, states_simulate, turns_agree};
 pub use machine::{Growing, longer_run_keeps};
 pub use schedules::{ThreadFrames, ThreadSimulation, schedules_correspond, threads_correspond};
