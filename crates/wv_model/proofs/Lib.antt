@@ -8,3 +8,6 @@ pub mod Blocks
 pub mod EndsWell
 pub mod ThreadsLift
 pub mod Limit
+pub mod FirstFormExamples
+pub mod SmallClass
+pub mod FirstPlace

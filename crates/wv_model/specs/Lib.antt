@@ -14,3 +14,11 @@ pub mod Lifted
 pub mod Typing
 pub mod Toy
 pub mod Threads
+pub mod PlainPool
+pub mod PlainCode
+pub mod PlainTyping
+pub mod PlainClass
+pub mod FolderRead
+pub mod FirstForm
+pub mod MemberTable
+pub mod FirstFormExamples

@@ -5,6 +5,7 @@
 //! what the law is about and what it takes for granted, so the law holds of all that could be put in.
 #![tactic(auto)]
 
+mod first_form;
 mod frames;
 mod machine;
 mod schedules;
@@ -13,6 +14,7 @@ mod step;
 mod toy;
 mod typing;
 
+pub use first_form::{first_form_examples, one_first_broken};
 pub use frames::{FrameSimulation, starts_correspond, states_simulate, turns_agree};
 pub use machine::{Growing, longer_run_keeps};
 pub use schedules::{ThreadFrames, ThreadSimulation, schedules_correspond, threads_correspond};
