@@ -97,12 +97,7 @@ impl Assembler {
         self.rest.extend_from_slice(&length.to_be_bytes())
     }
 
-    fn reference(
-        &mut self,
-        code: &mut Vec<u8>,
-        op: u8,
-        number: u16,
-    ) -> Result<(), AllocError> {
+    fn reference(&mut self, code: &mut Vec<u8>, op: u8, number: u16) -> Result<(), AllocError> {
         code.push(op)?;
         code.extend_from_slice(&number.to_be_bytes())
     }

@@ -71,11 +71,7 @@ fn mixin_class(alloc: Global, name: &str, code: &[Op<'_>]) -> Result<Vec<u8>, Al
 const PRINTS_SEVEN: [Op<'static>; 4] = [Op::Out, Op::Push(7), Op::Println, RETURN];
 
 /// The five files of the form, with this mixin, and the files besides.
-fn files(
-    alloc: Global,
-    mixin: Vec<u8>,
-    besides: Option<File>,
-) -> Result<Vec<File>, AllocError> {
+fn files(alloc: Global, mixin: Vec<u8>, besides: Option<File>) -> Result<Vec<File>, AllocError> {
     let mut files = Vec::new(alloc);
     if let Some(file) = besides {
         files.push(file)?;
@@ -172,7 +168,12 @@ fn run(
     let alloc = rt.alloc();
     let name = Text::from_str(alloc, "f")?;
     let folder = folder(rt, files)?;
-    let mut tree = MemTree::new(alloc, name, folder, Vec::from_slice(alloc, &[failing.tree])?);
+    let mut tree = MemTree::new(
+        alloc,
+        name,
+        folder,
+        Vec::from_slice(alloc, &[failing.tree])?,
+    );
     let mut outlet = MemOutlet::new(alloc, Vec::from_slice(alloc, &[failing.outlet])?);
     let mut sink = MemSink::new(alloc, 8192, Vec::from_slice(alloc, &[failing.sink])?)?;
     let words = words(alloc, arguments)?;
@@ -187,11 +188,7 @@ fn run(
 const WEAVE: [&str; 5] = ["loader", "weave", "f", "--out", "o"];
 
 /// That `weave f --out o` refuses the files with this line, and puts nothing.
-fn refuses(
-    rt: &(impl Abort + AllocGlobal),
-    files: Vec<File>,
-    line: &str,
-) -> Result<(), Fail> {
+fn refuses(rt: &(impl Abort + AllocGlobal), files: Vec<File>, line: &str) -> Result<(), Fail> {
     let outcome = run(rt, &WEAVE, files, NONE)?;
     assert_eq!(rt; outcome.printed.as_slice(), line.as_bytes());
     assert_eq!(rt; outcome.status, Status::Refused);
@@ -208,7 +205,10 @@ fn one_overwrite_is_woven(rt: HostRuntime) -> Result<(), Fail> {
     assert_eq!(rt; outcome.status, Status::Done);
     assert_eq!(rt; outcome.put.len(), 1);
     assert_eq!(rt; outcome.put[0].folder.as_slice(), b"o".as_slice());
-    assert_eq!(rt; outcome.put[0].path.as_slice(), b"app/Main.class".as_slice());
+    assert_eq!(rt;
+        outcome.put[0].path.as_slice(),
+        b"app/Main.class".as_slice()
+    );
     let class = read_class(alloc, outcome.put[0].bytes.as_slice())?;
     assert!(rt; class.name.is_ascii("app/Main"));
     assert_eq!(rt; class.methods.len(), 2);
@@ -239,7 +239,11 @@ fn broken_rules_are_refused(rt: HostRuntime) -> Result<(), Fail> {
     };
     refuses(
         &rt,
-        files(alloc, mixin_class(alloc, "f", &PRINTS_SEVEN)?, Some(besides))?,
+        files(
+            alloc,
+            mixin_class(alloc, "f", &PRINTS_SEVEN)?,
+            Some(besides),
+        )?,
         "refused: rule 9 OutOfForm at game/app/B.class wanted - found -\n",
     )
 }
@@ -284,7 +288,12 @@ fn each_failing_call_is_answered(rt: HostRuntime) -> Result<(), Fail> {
     assert_eq!(rt; outcome.status, Status::WriteFault);
     assert_eq!(rt; outcome.put.len(), 1);
     assert!(rt; outcome.printed.is_empty());
-    let outcome = run(&rt, &["loader"], Vec::new(alloc), Failing { sink: 1, ..NONE })?;
+    let outcome = run(
+        &rt,
+        &["loader"],
+        Vec::new(alloc),
+        Failing { sink: 1, ..NONE },
+    )?;
     assert_eq!(rt; outcome.status, Status::WriteFault);
     Ok(())
 }
@@ -300,7 +309,11 @@ fn a_cut_mixin_is_out_of_form(rt: HostRuntime) -> Result<(), Fail> {
     }
     refuses(
         &rt,
-        files(alloc, Vec::from_slice(alloc, &[0xca, 0xfe, 0xba, 0xbe])?, None)?,
+        files(
+            alloc,
+            Vec::from_slice(alloc, &[0xca, 0xfe, 0xba, 0xbe])?,
+            None,
+        )?,
         "refused: rule 9 OutOfForm at mods/alpha/alpha/mixin/MainMixin.class wanted - found -\n",
     )
 }

@@ -136,5 +136,5 @@ with_build text build d h free of_build = led h.build h.whole
       whole = ap (λ xs. xs ++ 43 ∷ build) (whole ∙ append-nil (h.numbers ++ led_by 45 h.pre_release));
       of_numbers = h.of_numbers;
       of_pre_release = h.of_pre_release;
-      of_build = of_build
+      of_build = of_build;
     }

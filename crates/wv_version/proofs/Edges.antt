@@ -29,13 +29,15 @@ none_greatest (Some xs) = inl tt
 
 pub empty_is_least : (v w : Dotted) → HasSameNumbers v.numbers w.numbers → v.pre_release ≡ Some [] → IsLower v w ⊎ (w.pre_release ≡ Some [])
 empty_is_least v w same empty = elim (empty_least w.pre_release) [
-    inl h ↦ inl (inr (same, subst (λ p. IsPreReleaseLower p w.pre_release) (sym empty) h))
-  | inr e ↦ inr (sym e) ]
+  | inl h ↦ inl (inr (same, subst (λ p. IsPreReleaseLower p w.pre_release) (sym empty) h))
+  | inr e ↦ inr (sym e)
+]
 
 pub none_is_greatest : (v w : Dotted) → HasSameNumbers v.numbers w.numbers → w.pre_release ≡ None → IsLower v w ⊎ (v.pre_release ≡ None)
 none_is_greatest v w same none = elim (none_greatest v.pre_release) [
-    inl h ↦ inl (inr (same, subst (λ p. IsPreReleaseLower v.pre_release p) (sym none) h))
-  | inr e ↦ inr e ]
+  | inl h ↦ inl (inr (same, subst (λ p. IsPreReleaseLower v.pre_release p) (sym none) h))
+  | inr e ↦ inr e
+]
 
 -- what a list with x at its end has at each place
 reads_front : (front : List ℕ) (x i : ℕ) → i < length front → slice_index (front ++ x ∷ []) i ≡ slice_index front i

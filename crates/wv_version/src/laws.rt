@@ -50,5 +50,5 @@ pub fn bounds()
         (least_of (slice_index w.numbers 0 ∷ (slice_index w.numbers 1 + 1) ∷ [])) }
     ensures wildcard { (v : Dotted) (front : List ℕ) (last : ℕ)
         → BeginsWith v.numbers (front ++ last ∷ []) ↔ IsBetween
-            (least_of (front ++ last ∷ [])) v (least_of (front ++ (last + 1) ∷ [])) }
+        (least_of (front ++ last ∷ [])) v (least_of (front ++ (last + 1) ∷ [])) }
 {}

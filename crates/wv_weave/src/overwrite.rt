@@ -6,11 +6,8 @@ use wv_base::{Body, ClassFile, Insn, Items, Member, Memory, Name};
 
 /// The place of the method that another overwrites: the one of the same name and descriptor.
 pub(crate) fn target_of(target: &ClassFile, method: &Member) -> Option<usize> {
-    target
-        .methods
-        .as_slice()
-        .iter()
-        .position(|other| other.name.is(&method.name) && other.descriptor.is(&method.descriptor))
+    target.methods.as_slice().iter().position(|other| other.name.is(&method.name)
+        && other.descriptor.is(&method.descriptor))
 }
 
 /// An instruction of the mixin as it is read in the target: the mixin's name is the target's.

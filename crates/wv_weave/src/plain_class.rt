@@ -183,7 +183,10 @@ fn read_class_notes(
         return Ok(Items::new(alloc));
     }
     reader.expect(1)?;
-    plain(pool.text(reader.short()?)?.is_ascii("RuntimeInvisibleAnnotations"))?;
+    plain(
+        pool.text(reader.short()?)?
+            .is_ascii("RuntimeInvisibleAnnotations"),
+    )?;
     let length = reader.length()?;
     read_mixin(alloc, pool, reader.take(length)?)
 }

@@ -46,7 +46,8 @@ impl Stack {
             Insn::Plain { op: POP } => plain(self.kinds.pop().is_some()),
             Insn::Reference { op: GETSTATIC, .. } => self.push(Kind::Stream),
             Insn::Reference {
-                op: INVOKEVIRTUAL, ..
+                op: INVOKEVIRTUAL,
+                ..
             } => {
                 self.pop(Kind::Int)?;
                 self.pop(Kind::Stream)

@@ -103,12 +103,7 @@ fn overwrite_missing(alloc: Global, method: &Member) -> Result<WeaveFault, Memor
     )
 }
 
-fn read_at(
-    alloc: Global,
-    folder: &Folder,
-    path: &str,
-    name: &str,
-) -> Result<ClassRead, Memory> {
+fn read_at(alloc: Global, folder: &Folder, path: &str, name: &str) -> Result<ClassRead, Memory> {
     let Some(bytes) = folder.find(path) else {
         return Ok(ClassRead::OutOfForm);
     };
