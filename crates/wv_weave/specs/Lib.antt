@@ -1,2 +1,3 @@
 pub mod Overwrite
 pub mod Checking
+pub mod Outside
