@@ -1,3 +1,4 @@
+pub mod ClassRead
 pub mod Overwrite
 pub mod Checking
 pub mod Outside

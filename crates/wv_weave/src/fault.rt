@@ -16,12 +16,20 @@ pub enum WeaveFault {
 }
 
 impl From<Memory> for WeaveFault {
+    ghost use Rattle.wv_weave.specs.declared.fault.WeaveFault.TheVariants as faults;
+
+    ghost from_gives = { λ _ e. e ≡ faults.Memory };
+
     fn from(_error: Memory) -> WeaveFault {
         WeaveFault::Memory
     }
 }
 
 impl From<AllocError> for WeaveFault {
+    ghost use Rattle.wv_weave.specs.declared.fault.WeaveFault.TheVariants as faults;
+
+    ghost from_gives = { λ _ e. e ≡ faults.Memory };
+
     fn from(_error: AllocError) -> WeaveFault {
         WeaveFault::Memory
     }

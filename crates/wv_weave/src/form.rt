@@ -17,29 +17,10 @@ pub(crate) const MOD_JSON_PATH: &str = "mods/alpha/fabric.mod.json";
 /// Where the woven class is put.
 pub(crate) const WRITTEN_PATH: &str = "app/Main.class";
 
-/// The paths of the form, ordered by their bytes.
-pub(crate) const PATHS: [&str; 5] = [
-    GAME_CLASS_PATH,
-    GAME_JSON_PATH,
-    CONFIG_PATH,
-    MIXIN_CLASS_PATH,
-    MOD_JSON_PATH,
-];
-
 /// The texts of the JSON files of the form.
-const GAME_JSON: &str = r#"{"id":"game","version":"1.0.0","main":"app/Main"}"#;
+pub(crate) const GAME_JSON: &str = r#"{"id":"game","version":"1.0.0","main":"app/Main"}"#;
 
-const CONFIG_JSON: &str = r#"{"package":"alpha.mixin","mixins":["MainMixin"]}"#;
+pub(crate) const CONFIG_JSON: &str = r#"{"package":"alpha.mixin","mixins":["MainMixin"]}"#;
 
-const MOD_JSON: &str =
+pub(crate) const MOD_JSON: &str =
     r#"{"schemaVersion":1,"id":"alpha","version":"1.0.0","mixins":["alpha.mixins.json"]}"#;
-
-/// The text that the JSON file of the form with this path has to have.
-pub(crate) fn json_of(path: &str) -> Option<&'static str> {
-    match path {
-        GAME_JSON_PATH => Some(GAME_JSON),
-        CONFIG_PATH => Some(CONFIG_JSON),
-        MOD_JSON_PATH => Some(MOD_JSON),
-        _ => None,
-    }
-}

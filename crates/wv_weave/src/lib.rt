@@ -2,6 +2,7 @@
 #![tactic(auto)]
 
 mod annotation;
+mod class_read;
 mod code;
 mod fault;
 mod form;
