@@ -2,3 +2,4 @@ pub mod ClassRead
 pub mod Overwrite
 pub mod Checking
 pub mod Outside
+pub mod Woven

@@ -1,7 +1,9 @@
 //! The weaver: the first broken rule of a folder, or the files that it is woven to.
-ghost use Rattle.std.specs.Prelude.{◌≡◌, ℕ, List, IfOk};
+ghost use Rattle.std.specs.Prelude.{◌≡◌, ℕ, List, [], ◌∷◌, IfOk};
+ghost use Rattle.wv_model.specs.MemberTable.{written_path};
 ghost use Rattle.wv_model.specs.FirstForm.{out_of_form};
 ghost use Rattle.wv_weave.specs.Outside.{IsMisplaced, RefusesForm};
+ghost use Rattle.wv_weave.specs.Woven.{IsOneEdit};
 
 use crate::class_read::{ClassRead, read_at};
 use crate::fault::WeaveFault;
@@ -27,7 +29,9 @@ pub struct Woven {
     pub hooks: u32,
 }
 
-fn text(alloc: Global, text: &str) -> Result<Text, Memory> {
+fn text(alloc: Global, text: &str) -> Result<Text, Memory>
+    ensures { IfOk result (λ copy. copy ≡ text.now) }
+{
     Text::from_str(alloc, text)
 }
 
@@ -101,8 +105,19 @@ fn written(alloc: Global, class: &ClassFile) -> Result<Bytes, WeaveFault> {
     }
 }
 
+/// The folder of the written class.
+fn one_file(alloc: Global, bytes: Bytes) -> Result<Folder, Memory>
+    ensures { IfOk result (λ files. files ≡ (written_path, bytes) ∷ []) }
+{
+    let mut files = Folder::new(alloc);
+    files.push(text(alloc, WRITTEN_PATH)?, bytes)?;
+    Ok(files)
+}
+
 /// Applies the mixin to the game class.
-fn merge(alloc: Global, mut game: ClassFile, mixin: &ClassFile) -> Result<Woven, WeaveFault> {
+fn merge(alloc: Global, mut game: ClassFile, mixin: &ClassFile) -> Result<Woven, WeaveFault>
+    ensures { IfOk result IsOneEdit }
+{
     for method in mixin.methods.as_slice() {
         let Some(place) = target_of(&game, method) else {
             return Err(overwrite_missing(alloc, method)?);
@@ -110,10 +125,8 @@ fn merge(alloc: Global, mut game: ClassFile, mixin: &ClassFile) -> Result<Woven,
         overwrite(alloc, &mut game, place, method)?;
     }
     let bytes = written(alloc, &game)?;
-    let mut files = Folder::new(alloc);
-    files.push(text(alloc, WRITTEN_PATH)?, bytes)?;
     Ok(Woven {
-        files,
+        files: one_file(alloc, bytes)?,
         edited: 1,
         mixins: 1,
         hooks: 0,
@@ -130,7 +143,9 @@ fn class_of(alloc: Global, path: &str, read: ClassRead) -> Result<ClassFile, Wea
 }
 
 /// Applies the mixin, where both class files are read as classes.
-fn apply(alloc: Global, game: ClassRead, mixin: ClassRead) -> Result<Woven, WeaveFault> {
+fn apply(alloc: Global, game: ClassRead, mixin: ClassRead) -> Result<Woven, WeaveFault>
+    ensures { IfOk result IsOneEdit }
+{
     let game = class_of(alloc, GAME_CLASS_PATH, game)?;
     let mixin = class_of(alloc, MIXIN_CLASS_PATH, mixin)?;
     merge(alloc, game, &mixin)
@@ -142,7 +157,8 @@ fn apply(alloc: Global, game: ClassRead, mixin: ClassRead) -> Result<Woven, Weav
 /// method of it. The rules are OutOfForm, ClassBad for a file that doesn't begin with the magic
 /// number, and OverwriteMissing.
 pub fn weave(alloc: Global, folder: &Folder, _side: Side) -> Result<Woven, WeaveFault>
-    ensures { (path : List ℕ) → IsMisplaced folder.now path → RefusesForm result path }
+    ensures form { (path : List ℕ) → IsMisplaced folder.now path → RefusesForm result path }
+    ensures one_edit { IfOk result IsOneEdit }
 {
     let game = read_at(alloc, folder, GAME_CLASS_PATH, GAME_CLASS)?;
     let mixin = read_at(alloc, folder, MIXIN_CLASS_PATH, MIXIN_CLASS)?;
