@@ -1,5 +1,5 @@
 -- The first file in order that counts and isn't of the form has the first such path.
-use Rattle.std.proofs.Common.{◌≡◌, ℕ, zero, suc, ◌+◌, ◌<◌, ◌≤◌, Bool, true, false, ◌&&◌, ◌||◌, not, ◌⊎◌, inl, inr, List, [], ◌∷◌, length, take, get_or, All, Option, Some, None, find, bytes_eq, refl, sym, ap, ◌∙◌, subst, arith, true≢false, cond, below_more}
+use Rattle.std.proofs.Common.{◌≡◌, ℕ, zero, suc, ◌+◌, ◌<◌, ◌≤◌, Bool, true, false, ◌&&◌, ◌||◌, not, ◌⊎◌, inl, inr, List, [], ◌∷◌, length, get_or, Option, Some, None, find, bytes_eq, refl, sym, ap, ◌∙◌, subst, arith, true≢false, cond, below_more}
 use Rattle.std.specs.Cmp.Lexicographic.{slice_cmp}
 use Rattle.std.specs.List.{IsAmong, list_any}
 use Rattle.std.specs.Option.{option_map}
@@ -7,10 +7,9 @@ use Rattle.std.specs.Ordering.{nat_cmp, is_eq, ordering_index, ordering_reverse}
 use Rattle.std.specs.declared.cmp.Ordering.{Ordering}
 use Rattle.std.specs.declared.cmp.Ordering.TheVariants.{Less, Equal, Greater}
 use Rattle.std.proofs.lemmas.Cmp.{nat_list_cmp_total}
-use Rattle.std.proofs.lemmas.List.{get_or_default, get_or-take, length-take}
+use Rattle.std.proofs.lemmas.List.{get_or_default}
 use Rattle.std.proofs.lemmas.Map.Text.{is_eq-slice_cmp}
 use Rattle.std.proofs.lemmas.Slice.Eq.{bytes_eq-Decides}
-use Rattle.std.proofs.lemmas.Grind.{common_steps}
 use Rattle.wv_base.specs.Folder.{File, IsPathBefore, IsInOrder, content_of}
 use Rattle.wv_base.proofs.PathOrder.{content_of-at}
 use Rattle.wv_model.specs.FirstForm.{counts, form_paths}
@@ -112,12 +111,11 @@ NoneExtra files count = (k : ℕ) → k < count → (d : File) → is_extra (get
 pub first_extra_at : (files folder : List File) (i : ℕ) (file : File) → files ≡ folder → IsInOrder folder → i < length files → file ≡ get_or files i file → is_extra file.0 ≡ true → NoneExtra files i → IsFirstPath (IsExtra folder) (Some file.0)
 first_extra_at files folder i file same order within at extra none =
     let order_here : IsInOrder files = subst IsInOrder (sym same) order in
-    let here = content_of-at files folder files file.0 i file same refl order_here within (λ d. subst (λ (f : File). slice_cmp nat_cmp f.0 file.0 ≡ Equal) (at ∙ get_or_default files i file d within) (same_cmp file.0)) at in
-    (
+    let here = content_of-at files folder files file.0 i file same refl order_here within (λ d. subst (λ (f : File). slice_cmp nat_cmp f.0 file.0 ≡ Equal) (at ∙ get_or_default files i file d within) (same_cmp file.0)) at in (
       extra-from folder file.0 file.1 extra (sym here.0),
       λ other other_extra before.
-        let (k, k_within, k_at) = place_of files other other_extra.content (subst (λ (fs : List File). content_of other fs ≡ Some other_extra.content) (sym same) other_extra.present) in
-        by other other_extra before k k_within k_at (cases k i)
+          let (k, k_within, k_at) = place_of files other other_extra.content (subst (λ (fs : List File). content_of other fs ≡ Some other_extra.content) (sym same) other_extra.present) in
+          by other other_extra before k k_within k_at (cases k i),
     )
   where
     cases : (k i : ℕ) → (k < i) ⊎ (k ≡ i) ⊎ (i < k)

@@ -1,7 +1,6 @@
 -- The paths of the form in order: the first that is unfit is the first such path, and so is the lesser of two first ones.
-use Rattle.std.proofs.Common.{◌≡◌, ℕ, zero, suc, ◌+◌, ◌<◌, ◌≤◌, Bool, true, false, ◌⊎◌, inl, inr, List, [], ◌∷◌, Option, Some, None, codes, refl, sym, ap, ◌∙◌, subst, arith, true≢false, cond, is_lt, get_or, lit<}
+use Rattle.std.proofs.Common.{◌≡◌, ℕ, zero, suc, ◌<◌, Bool, true, false, ◌⊎◌, inl, inr, List, [], ◌∷◌, Option, Some, None, refl, sym, ap, ◌∙◌, subst, arith, cond, is_lt, get_or, lit<}
 use Rattle.std.specs.Cmp.Lexicographic.{slice_cmp}
-use Rattle.std.specs.List.{IsAmong}
 use Rattle.std.specs.Ordering.{nat_cmp, is_eq, ordering_index, ordering_reverse}
 use Rattle.std.specs.declared.cmp.Ordering.{Ordering}
 use Rattle.std.specs.declared.cmp.Ordering.TheVariants.{Less, Equal, Greater}
@@ -13,7 +12,7 @@ use Rattle.wv_model.specs.FirstForm.{class_path, json_files}
 use Rattle.wv_model.specs.PlainCode.{Game, Mixin}
 use Rattle.wv_weave.specs.declared.class_read.ClassRead.{ClassRead}
 use Rattle.wv_weave.specs.declared.class_read.ClassRead.TheVariants as reads
-use Rattle.wv_weave.specs.Outside.{IsMisplaced, IsOut, IsUnfitJson, IsUnfit, IsFirstPath, lesser}
+use Rattle.wv_weave.specs.Outside.{IsMisplaced, IsOut, IsUnfit, IsFirstPath, lesser}
 
 -- ---- The lesser of two first paths
 
@@ -27,23 +26,20 @@ less_of Less e = refl
 less_of Equal e = cc
 less_of Greater e = cc
 
-
 either : (IsA IsB : List ℕ → Type 0) (first second : List ℕ) (b : Bool) → is_lt (slice_cmp nat_cmp first second) ≡ b
     → IsFirstPath IsA (Some first) → IsFirstPath IsB (Some second) → IsFirstPath (λ path. IsA path ⊎ IsB path) (cond b (Some first) (Some second))
-either IsA IsB first second true less a b =
-    (
-      inl a.0,
-      λ other such before. by other such before,
-    )
+either IsA IsB first second true less a b = (
+  inl a.0,
+  λ other such before. by other such before,
+)
   where
     by : (other : List ℕ) → IsA other ⊎ IsB other → IsPathBefore other first → ⊥
     by other (inl x) before = a.1 other x before
     by other (inr x) before = b.1 other x (nat_list_cmp_total.trans other first second before (less_of (slice_cmp nat_cmp first second) less))
-either IsA IsB first second false more a b =
-    (
-      inr b.0,
-      λ other such before. by other such before,
-    )
+either IsA IsB first second false more a b = (
+  inr b.0,
+  λ other such before. by other such before,
+)
   where
     order : (o : Ordering) → slice_cmp nat_cmp first second ≡ o → is_lt o ≡ false → (other : List ℕ) → IsPathBefore other second → IsPathBefore other first
     order Less is e other before = cc

@@ -1,6 +1,6 @@
 -- Type checking of plain code as a function: the state behind an instruction, where its row fits (JVM Specification
 -- 4.10.1.9).
-use Rattle.std.specs.Prelude.{◌≡◌, ℕ, ◌==◌, nat_le, Bool, true, false, ◌&&◌, ◌||◌, if◌then◌else◌, List, [], ◌∷◌, codes, bytes_eq, Option, Some, None, option_and_then, Result, Ok, Err}
+use Rattle.std.specs.Prelude.{◌≡◌, ℕ, ◌==◌, nat_le, Bool, true, false, ◌&&◌, ◌||◌, if◌then◌else◌, [], ◌∷◌, codes, bytes_eq, Option, Some, None, option_and_then, Result, Ok, Err}
 use Rattle.wv_base.specs.declared.frame.VType.{VType}
 use Rattle.wv_base.specs.declared.frame.VType.TheVariants as types
 use Rattle.wv_base.specs.declared.insn.Insn.{Insn}

@@ -1,4 +1,4 @@
-use Rattle.std.proofs.Common.{List, ℕ, option_copied, sym, subst}
+use Rattle.std.proofs.Common.{sym, subst}
 use Rattle.wv_weave.specs.Outside.{IsExtra, IsUnfit, IsOut, IsFirstPath}
 use Rattle.wv_weave.proofs.UnfitPaths.{lesser_first}
 use Rattle.wv_weave.proofs.outside.first_outside.Goals as goal

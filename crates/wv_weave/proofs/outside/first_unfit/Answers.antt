@@ -1,4 +1,4 @@
-use Rattle.std.proofs.Common.{◌≡◌, true, false, inl, inr, refl, lit<, tests, rules}
+use Rattle.std.proofs.Common.{◌≡◌, true, false, inl, refl, lit<, tests, rules}
 use Rattle.std.proofs.lemmas.Bool.Decides.{when_true, when_false}
 use Rattle.wv_weave.proofs.UnfitPaths.{json, first_unfit_at, none_unfit, fit_1, fit_2, fit_4, fit_5}
 use Rattle.wv_weave.proofs.outside.first_unfit.Goals as goal
