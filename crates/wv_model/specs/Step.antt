@@ -62,12 +62,12 @@ settled {D} {Place} rules control Sticks shown top below before =
 abbrev pub turn_of : {D : Domain} {Place : Type 0} → Rules D → Control D Place → Move D Place → Frame D Place → List (Frame D Place) → D.Shared → Turn D Place
 turn_of rules control move top below shared = settled rules control move.course move.shown top below shared
 
--- the shared part after a turn with this ending or none
+-- what the end of a thread does to the shared part, where there is an end
 abbrev pub shared_after : {D : Domain} {Place : Type 0} → Control D Place → Option D.Ending → D.Shared → D.Shared
 shared_after {D} {Place} control None shared = shared
 shared_after {D} {Place} control (Some ending) shared = control.ended ending shared
 
--- where a turn ends its thread, that end does its part, too
+-- a turn with that done
 abbrev pub closed : {D : Domain} {Place : Type 0} → Control D Place → Turn D Place → Turn D Place
 closed {D} {Place} control turn =
     record {

@@ -31,8 +31,8 @@ abbrev pub expand : List Spot → List Instr
 expand [] = []
 expand (At methods instr ∷ spots) = blocks methods (instr ∷ expand spots)
 
--- numbers and methods are numbers, a number is thrown and shown, and what is shared counts what was said, the frames that
--- were left, and the threads that have ended
+-- numbers and methods are numbers, a number is thrown and shown, and what is shared counts what was said, the frames
+-- that were left and the threads that have ended
 pub data ToyEnding : Type 0 where
   Returned : ToyEnding
   Deep : ToyEnding
