@@ -22,9 +22,17 @@ read_in_target (insns.Reference op owner name descriptor interface) =
     insns.Reference op (meaning_of owner) name descriptor interface
 read_in_target insn = insn
 
--- code of the mixin as it is read in the target
+-- code of the mixin as it is read in the target; plain code has no ranges, frames or attributes, and this has none
 abbrev pub body_in_target : Body → Body
-body_in_target body = record body { insns = map read_in_target body.insns }
+body_in_target body =
+    record {
+      max_stack = body.max_stack;
+      max_locals = body.max_locals;
+      insns = map read_in_target body.insns;
+      ranges = [];
+      frames = [];
+      kept = [];
+    }
 
 -- a method of the target that the origin replaces: it keeps its place, flags, name and descriptor, has the origin's
 -- code, and no other attribute

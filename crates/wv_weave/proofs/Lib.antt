@@ -1,0 +1,2 @@
+pub mod TypingChecks
+pub mod ExtraPaths

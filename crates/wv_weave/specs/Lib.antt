@@ -1,0 +1,3 @@
+pub mod Overwrite
+pub mod Checking
+pub mod Outside

@@ -8,16 +8,22 @@ pub(crate) const GAME_CLASS_PATH: &str = "game/app/Main.class";
 
 pub(crate) const MIXIN_CLASS_PATH: &str = "mods/alpha/alpha/mixin/MainMixin.class";
 
+pub(crate) const GAME_JSON_PATH: &str = "game/game.json";
+
+pub(crate) const CONFIG_PATH: &str = "mods/alpha/alpha.mixins.json";
+
+pub(crate) const MOD_JSON_PATH: &str = "mods/alpha/fabric.mod.json";
+
 /// Where the woven class is put.
 pub(crate) const WRITTEN_PATH: &str = "app/Main.class";
 
 /// The paths of the form, ordered by their bytes.
 pub(crate) const PATHS: [&str; 5] = [
-    "game/app/Main.class",
-    "game/game.json",
-    "mods/alpha/alpha.mixins.json",
-    "mods/alpha/alpha/mixin/MainMixin.class",
-    "mods/alpha/fabric.mod.json",
+    GAME_CLASS_PATH,
+    GAME_JSON_PATH,
+    CONFIG_PATH,
+    MIXIN_CLASS_PATH,
+    MOD_JSON_PATH,
 ];
 
 /// The texts of the JSON files of the form.
@@ -31,9 +37,9 @@ const MOD_JSON: &str =
 /// The text that the JSON file of the form with this path has to have.
 pub(crate) fn json_of(path: &str) -> Option<&'static str> {
     match path {
-        "game/game.json" => Some(GAME_JSON),
-        "mods/alpha/alpha.mixins.json" => Some(CONFIG_JSON),
-        "mods/alpha/fabric.mod.json" => Some(MOD_JSON),
+        GAME_JSON_PATH => Some(GAME_JSON),
+        CONFIG_PATH => Some(CONFIG_JSON),
+        MOD_JSON_PATH => Some(MOD_JSON),
         _ => None,
     }
 }

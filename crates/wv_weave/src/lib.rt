@@ -6,6 +6,7 @@ mod code;
 mod fault;
 mod form;
 mod opcode;
+mod outside;
 mod overwrite;
 mod path;
 mod plain_class;

@@ -4,8 +4,8 @@ use crate::fault::{PlainFault, WeaveFault};
 use crate::form::{
     GAME_CLASS, GAME_CLASS_PATH, MIXIN_CLASS, MIXIN_CLASS_PATH, PATHS, WRITTEN_PATH, json_of,
 };
+use crate::outside::{first_extra, lesser};
 use crate::overwrite::{overwrite, target_of};
-use crate::path::is_read;
 use crate::plain_class::{magic_fault, read_plain};
 use crate::write::write_class;
 use std::alloc::Global;
@@ -138,27 +138,6 @@ fn first_outside(folder: &Folder, game: &ClassRead, mixin: &ClassRead) -> Option
         }
     }
     None
-}
-
-/// The first path that counts for the form, being read or a jar, and isn't one of the form's.
-fn first_extra(folder: &Folder) -> Option<&str> {
-    for file in folder.files() {
-        let path = file.0.as_str();
-        let counts = is_read(path) || path.ends_with(".jar");
-        if counts && !PATHS.contains(&path) {
-            return Some(path);
-        }
-    }
-    None
-}
-
-/// The lesser of two paths by their bytes, where there are such.
-fn lesser<'a>(first: Option<&'a str>, second: Option<&'a str>) -> Option<&'a str> {
-    match (first, second) {
-        (Some(first), Some(second)) => Some(if first < second { first } else { second }),
-        (Some(path), None) | (None, Some(path)) => Some(path),
-        (None, None) => None,
-    }
 }
 
 fn written(alloc: Global, class: &ClassFile) -> Result<Bytes, WeaveFault> {
