@@ -1,2 +1,3 @@
 pub mod FirstWrong
 pub mod Slashing
+pub mod Tables

@@ -1,36 +1,29 @@
 //! Refmaps.
-ghost use Rattle.std.specs.Prelude.{◌≡◌, ℕ, List, Option, None, IfOk, IfErr, IfSome, IfNone};
+ghost use Rattle.std.specs.Prelude.{◌≡◌, ℕ, List, None, IfOk, IfErr, IfSome, IfNone};
 ghost use Rattle.std.specs.Option.{option_map};
 ghost use Rattle.serde_json.specs.Data.{Data};
 ghost use Rattle.serde_json.specs.View.{view};
-ghost use Rattle.wv_config.specs.Refmap.{text_within, text_of, IsRefmapFile, IsRefmap, IsRefmapBroken, AreNames};
+ghost use Rattle.wv_config.specs.Refmap.{text_in, text_at, IsRefmapFile, IsRefmap, IsRefmapBroken, AreNames};
 ghost use Rattle.wv_config.specs.Fault.{IsFaultOf};
 
 use crate::fault::ConfigFault;
 use serde_json::Value;
 use std::alloc::Global;
-use std::marker::Model;
 use wv_base::{Broken, Memory, Name, Rule, Text};
 use wv_json::{JsonError, read_object, read_text_tables};
 
 /// A refmap (Mixin 0.8.5): for each mixin class, what the references that its annotations write stand
-/// for. Contracts see the function from class names and references to texts.
+/// for.
 #[derive(Debug, Drop)]
 pub struct Refmap {
     /// The object that the file is, and `null` where there is no file.
     file: Value,
 }
 
-impl Model for Refmap {
-    ghost Value = { List ℕ → List ℕ → Option (List ℕ) };
-
-    ghost view = { λ r. text_within (view r.file) };
-}
-
 impl Refmap {
     /// The refmap of a file that isn't there: nothing stands for anything else.
     pub fn empty() -> Refmap
-        ensures { (class reference : List ℕ) → result class reference ≡ None }
+        ensures { (class reference : List ℕ) → text_in result class reference ≡ None }
     {
         Refmap { file: Value::Null }
     }
@@ -49,23 +42,16 @@ impl Refmap {
     }
 }
 
-/// What the references of one mixin class stand for. Contracts see the function from references to
-/// texts.
+/// What the references of one mixin class stand for.
 #[derive(Debug, Drop)]
 pub struct Names<'a> {
     table: Option<&'a Value>,
 }
 
-impl Model for Names<'_> {
-    ghost Value = { List ℕ → Option (List ℕ) };
-
-    ghost view = { λ n. text_of (option_map (λ table. view table.now) n.table) };
-}
-
-impl Names<'_> {
+impl<'a> Names<'a> {
     /// What the reference stands for, where it stands for something else.
     pub fn get(&self, reference: &str) -> Option<&str>
-        ensures { option_map (λ text. text.now) result ≡ self.now reference.now }
+        ensures { option_map (λ text. text.now) result ≡ text_at self.now reference.now }
     {
         self.table?.get(reference)?.as_str()
     }
