@@ -20,7 +20,7 @@ first value before after key IsRead order right read (Wrong other) wrong = subst
 })
 first value before after key IsRead order right read Memory wrong = tt
 
-pub wrong-package : (value : Data)  (fault : KeyFault) → IsWrongAt Package (IsPackage value) fault → IsKeyFault value fault
+pub wrong-package : (value : Data) (fault : KeyFault) → IsWrongAt Package (IsPackage value) fault → IsKeyFault value fault
 wrong-package value fault wrong = first value ([]) (Mixins ∷ Client ∷ Server ∷ Refmap ∷ Priority ∷ MixinPriority ∷ DefaultRequire ∷ RequireAnnotations ∷ []) Package (IsPackage value) refl tt (λ r. r) fault wrong
 
 pub wrong-mixins : (value : Data) (x0 : List ℕ) (fault : KeyFault) → IsPackage value x0 → IsWrongAt Mixins (IsClasses Mixins value) fault → IsKeyFault value fault

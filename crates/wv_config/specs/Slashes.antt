@@ -1,5 +1,5 @@
 -- Names of packages and classes with slashes (JVM Specification 4.2.1) in place of dots.
-use Rattle.std.specs.Prelude.{◌≡◌, ◌==◌, if◌then◌else◌, ℕ, List, map}
+use Rattle.std.specs.Prelude.{◌≡◌, ◌==◌, if◌then◌else◌, ℕ, List, ◌∷◌, ◌++◌, map}
 
 -- a dot becomes a slash, and every other byte stays
 abbrev pub with_slash : ℕ → ℕ
@@ -15,3 +15,7 @@ IsInSlashes IsRead slashed = (text : List ℕ) × IsRead text × (slashed ≡ wi
 -- the texts that are read, each with slashes
 abbrev pub AreInSlashes : (List (List ℕ) → Type 0) → List (List ℕ) → Type 0
 AreInSlashes IsRead slashed = (texts : List (List ℕ)) × IsRead texts × (slashed ≡ map with_slashes texts)
+
+-- the class of an entry in a package (Mixin 0.8.5): the package, a slash, and the entry
+abbrev pub class_of : List ℕ → List ℕ → List ℕ
+class_of in_package entry = in_package ++ 47 ∷ entry

@@ -3,6 +3,7 @@ ghost use Rattle.std.specs.Prelude.{◌≡◌, IfOk, IfErr, codes};
 ghost use Rattle.serde_json.specs.View.{view};
 ghost use Rattle.wv_base.specs.declared.rule.Rule.TheVariants.{ConfigBad, PluginNamed};
 ghost use Rattle.wv_config.specs.Config.{IsConfigOf, IsFirstWrong, IsKeyFault, IsConfig, IsConfigBroken};
+ghost use Rattle.wv_config.specs.Slashes.{class_of};
 ghost use Rattle.wv_config.specs.Fault.{broken_at, IsFaultOf};
 
 use crate::fault::ConfigFault;
@@ -75,6 +76,16 @@ impl Config {
             default_require,
             require_annotations,
         })
+    }
+
+    /// The name of the mixin class that an entry of one of the lists stands for.
+    pub fn class_of(&self, alloc: Global, entry: &Text) -> Result<Text, Memory>
+        ensures { IfOk result (λ class. class ≡ class_of self.now.«package» entry.now) }
+    {
+        let mut class = String::from_str(alloc, self.package.as_str())?;
+        class.push('/')?;
+        class.push_str(entry.as_str())?;
+        Ok(Text::from_string(class))
     }
 }
 
