@@ -1,5 +1,5 @@
 -- A text whose dots become slashes is a text: a character below 128 is one byte, and each byte of another is 128 or more.
-use Rattle.std.proofs.Common.{◌≡◌, ℕ, ◌<◌, ◌≤◌, ◌++◌, ◌∷◌, [], ◌&&◌, List, map, true, Bool, refl, sym, ap, ◌∙◌, arith, ◌⊎◌, inl, inr}
+use Rattle.std.proofs.Common.{◌≡◌, ℕ, ◌<◌, ◌≤◌, ◌++◌, ◌∷◌, [], ◌&&◌, List, true, refl, sym, ap, ◌∙◌, arith, inl, inr}
 use Rattle.std.specs.Str.{IsUtf8}
 use Rattle.std.proofs.Math.Utf8.{scalar, scalars, encode, encodes, scalar_cases, low_scalar}
 use Rattle.std.proofs.str.Laws.{Shape, of1, of2, of3, of4, shape, one, both, order}

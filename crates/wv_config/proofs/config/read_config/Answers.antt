@@ -1,6 +1,6 @@
 use Rattle.std.proofs.Common.{ap, ◌∙◌}
 use Rattle.serde_json.specs.View.{view}
-use Rattle.wv_base.specs.declared.rule.Rule.TheVariants.{ConfigBad, PluginNamed}
+use Rattle.wv_base.specs.declared.rule.Rule.TheVariants.{ConfigBad}
 use Rattle.wv_config.specs.Fault.{broken_at}
 use Rattle.wv_config.specs.Config.{wrong_key, plugin}
 use Rattle.wv_config.proofs.config.read_config.Goals as goal

@@ -1,4 +1,4 @@
-use Rattle.std.proofs.Common.{arith, rules}
+use Rattle.std.proofs.Common.{rules}
 use Rattle.serde_json.specs.View.{view}
 use Rattle.wv_config.proofs.FirstWrong.{wrong-require_annotations}
 use Rattle.wv_config.proofs.config.Config.of.Goals as goal
