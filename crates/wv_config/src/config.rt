@@ -1,8 +1,8 @@
 //! Mixin configurations.
-ghost use Rattle.std.specs.Prelude.{◌≡◌, IfOk, IfErr, codes};
+ghost use Rattle.std.specs.Prelude.{◌≡◌, IfOk, IfErr};
 ghost use Rattle.serde_json.specs.View.{view};
-ghost use Rattle.wv_base.specs.declared.rule.Rule.TheVariants.{ConfigBad, PluginNamed};
-ghost use Rattle.wv_config.specs.Config.{IsConfigOf, IsFirstWrong, IsKeyFault, IsConfig, IsConfigBroken};
+ghost use Rattle.wv_base.specs.declared.rule.Rule.TheVariants.{ConfigBad};
+ghost use Rattle.wv_config.specs.Config.{IsConfigOf, IsKeyFault, IsConfig, IsConfigBroken};
 ghost use Rattle.wv_config.specs.Slashes.{class_of};
 ghost use Rattle.wv_config.specs.Fault.{broken_at, IsFaultOf};
 

@@ -2,7 +2,6 @@
 ghost use Rattle.std.specs.Prelude.{[], IfOk, IfErr, false};
 ghost use Rattle.serde_json.specs.Find.{get};
 ghost use Rattle.serde_json.specs.View.{view};
-ghost use Rattle.wv_json.specs.Field.{IsField};
 ghost use Rattle.wv_json.specs.Kind.{IsText, IsTexts, IsNumber, IsBoolean};
 ghost use Rattle.wv_config.specs.Key.{name_of, IsWrongAt};
 ghost use Rattle.wv_config.specs.Stands.{IsThere, IsOrElse, IsThereOrNone, IsWithin};

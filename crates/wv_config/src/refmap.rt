@@ -50,7 +50,7 @@ pub struct Names<'a> {
 
 impl<'a> Names<'a> {
     /// What the reference stands for, where it stands for something else.
-    pub fn get(&self, reference: &str) -> Option<&str>
+    pub fn get(&self, reference: &str) -> Option<&'a str>
         ensures { option_map (λ text. text.now) result ≡ text_at self.now reference.now }
     {
         self.table?.get(reference)?.as_str()
