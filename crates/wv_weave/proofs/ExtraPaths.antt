@@ -112,12 +112,11 @@ NoneExtra files count = (k : ℕ) → k < count → (d : File) → is_extra (get
 pub first_extra_at : (files folder : List File) (i : ℕ) (file : File) → files ≡ folder → IsInOrder folder → i < length files → file ≡ get_or files i file → is_extra file.0 ≡ true → NoneExtra files i → IsFirstPath (IsExtra folder) (Some file.0)
 first_extra_at files folder i file same order within at extra none =
     let order_here : IsInOrder files = subst IsInOrder (sym same) order in
-    let here = content_of-at files folder files file.0 i file same refl order_here within (λ d. subst (λ (f : File). slice_cmp nat_cmp f.0 file.0 ≡ Equal) (at ∙ get_or_default files i file d within) (same_cmp file.0)) at in
-    (
+    let here = content_of-at files folder files file.0 i file same refl order_here within (λ d. subst (λ (f : File). slice_cmp nat_cmp f.0 file.0 ≡ Equal) (at ∙ get_or_default files i file d within) (same_cmp file.0)) at in (
       extra-from folder file.0 file.1 extra (sym here.0),
       λ other other_extra before.
-        let (k, k_within, k_at) = place_of files other other_extra.content (subst (λ (fs : List File). content_of other fs ≡ Some other_extra.content) (sym same) other_extra.present) in
-        by other other_extra before k k_within k_at (cases k i)
+          let (k, k_within, k_at) = place_of files other other_extra.content (subst (λ (fs : List File). content_of other fs ≡ Some other_extra.content) (sym same) other_extra.present) in
+          by other other_extra before k k_within k_at (cases k i),
     )
   where
     cases : (k i : ℕ) → (k < i) ⊎ (k ≡ i) ⊎ (i < k)

@@ -77,18 +77,18 @@ added_leads : (op : ℕ) (before after : Stack) → (op ≡ iadd) ⊎ (op ≡ im
 added_leads op before after which e =
     option_and_then_some _ (taken kinds.Int before) after e
     (λ one first second.
-        option_and_then_some _ (taken kinds.Int one) after second
-        (λ rest third last.
-            let a = taken_from kinds.Int before one first in
-            let b = taken_from kinds.Int one rest third in
-            record {
-              taken = types.Int ∷ types.Int ∷ [];
-              put = types.Int ∷ [];
-              rest = rest;
-              row = arithmetic which;
-              from = cc;
-              to = cc;
-            }))
+    option_and_then_some _ (taken kinds.Int one) after second
+    (λ rest third last.
+    let a = taken_from kinds.Int before one first in
+    let b = taken_from kinds.Int one rest third in
+    record {
+      taken = types.Int ∷ types.Int ∷ [];
+      put = types.Int ∷ [];
+      rest = rest;
+      row = arithmetic which;
+      from = cc;
+      to = cc;
+    }))
 
 dropped_leads : (op : ℕ) (before after : Stack) → op ≡ pop → checking.dropped before ≡ Some after → Leads (insns.Plain op) before after
 dropped_leads op [] after which e = cc
@@ -101,43 +101,43 @@ plain_leads op before after e =
     let other_than_add : Option Stack = if op == pop then checking.dropped before else other_than_pop in
     let other_than_const : Option Stack = if op == iadd || op == imul then added before else other_than_add in
     elim (if_cases (nat_le iconst_0 op && nat_le op iconst_5) (Some (types.Int ∷ before)) other_than_const after e) [
-      inl a ↦
-        record { taken = []; put = types.Int ∷ []; rest = before; row = iconst (grind (arith, nat_tests)) (grind (arith, nat_tests)); from = refl; to = cc }
-    | inr a ↦
-        elim (if_cases (op == iadd || op == imul) (added before) other_than_add after a.1) [
-          inl b ↦ added_leads op before after (grind (arith, nat_tests)) b.1
-        | inr b ↦
-            elim (if_cases (op == pop) (checking.dropped before) other_than_pop after b.1) [
-              inl d ↦ dropped_leads op before after (grind (arith, nat_tests)) d.1
-            | inr d ↦
-                let found = if_some _ before after d.1 in
-                record { taken = []; put = []; rest = before; row = returned (grind (arith, nat_tests)); from = refl; to = sym found.1 }
-            ]
-        ]
+      | inl a ↦
+          record { taken = []; put = types.Int ∷ []; rest = before; row = iconst (grind (arith, nat_tests)) (grind (arith, nat_tests)); from = refl; to = cc }
+      | inr a ↦
+          elim (if_cases (op == iadd || op == imul) (added before) other_than_add after a.1) [
+            | inl b ↦ added_leads op before after (grind (arith, nat_tests)) b.1
+            | inr b ↦
+                elim (if_cases (op == pop) (checking.dropped before) other_than_pop after b.1) [
+                  | inl d ↦ dropped_leads op before after (grind (arith, nat_tests)) d.1
+                  | inr d ↦
+                      let found = if_some _ before after d.1 in
+                      record { taken = []; put = []; rest = before; row = returned (grind (arith, nat_tests)); from = refl; to = sym found.1 }
+                ]
+          ]
     ]
 
 printed_leads : (op : ℕ) (owner name descriptor : List ℕ) (interface : Bool) (before after : Stack) → op ≡ invokevirtual → checking.printed before ≡ Some after → Leads (insns.Reference op owner name descriptor interface) before after
 printed_leads op owner name descriptor interface before after which e =
     option_and_then_some _ (taken kinds.Int before) after e
     (λ one first second.
-        let a = taken_from kinds.Int before one first in
-        let b = taken_from kinds.Stream one after second in
-        record { taken = types.Int ∷ print_stream ∷ []; put = []; rest = after; row = printed which; from = cc; to = refl })
+    let a = taken_from kinds.Int before one first in
+    let b = taken_from kinds.Stream one after second in
+    record { taken = types.Int ∷ print_stream ∷ []; put = []; rest = after; row = printed which; from = cc; to = refl })
 
 reference_leads : (op : ℕ) (owner name descriptor : List ℕ) (interface : Bool) (before after : Stack) → next_reference op before ≡ Some after → Leads (insns.Reference op owner name descriptor interface) before after
 reference_leads op owner name descriptor interface before after e =
     let other_than_print : Option Stack = if op == invokestatic then Some before else None in
     let other_than_get : Option Stack = if op == invokevirtual then checking.printed before else other_than_print in
     elim (if_cases (op == getstatic) (Some (print_stream ∷ before)) other_than_get after e) [
-      inl a ↦
-        record { taken = []; put = print_stream ∷ []; rest = before; row = read_out (grind (arith, nat_tests)); from = refl; to = cc }
-    | inr a ↦
-        elim (if_cases (op == invokevirtual) (checking.printed before) other_than_print after a.1) [
-          inl b ↦ printed_leads op owner name descriptor interface before after (grind (arith, nat_tests)) b.1
-        | inr b ↦
-            let found = if_some _ before after b.1 in
-            record { taken = []; put = []; rest = before; row = called (grind (arith, nat_tests)); from = refl; to = sym found.1 }
-        ]
+      | inl a ↦
+          record { taken = []; put = print_stream ∷ []; rest = before; row = read_out (grind (arith, nat_tests)); from = refl; to = cc }
+      | inr a ↦
+          elim (if_cases (op == invokevirtual) (checking.printed before) other_than_print after a.1) [
+            | inl b ↦ printed_leads op owner name descriptor interface before after (grind (arith, nat_tests)) b.1
+            | inr b ↦
+                let found = if_some _ before after b.1 in
+                record { taken = []; put = []; rest = before; row = called (grind (arith, nat_tests)); from = refl; to = sym found.1 }
+          ]
     ]
 
 push_leads : (op : ℕ) (value : _) (before after : Stack) → next_push op before ≡ Some after → Leads (insns.Push op value) before after

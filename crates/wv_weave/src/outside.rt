@@ -3,9 +3,7 @@ ghost use Rattle.std.specs.Prelude.{◌≡◌, ◌&&◌, not, option_copied};
 ghost use Rattle.wv_model.specs.FirstForm.{counts};
 ghost use Rattle.wv_weave.specs.Outside.{is_form_path, IsExtra, IsFirstPath, lesser};
 
-use crate::form::{
-    CONFIG_PATH, GAME_CLASS_PATH, GAME_JSON_PATH, MIXIN_CLASS_PATH, MOD_JSON_PATH,
-};
+use crate::form::{CONFIG_PATH, GAME_CLASS_PATH, GAME_JSON_PATH, MIXIN_CLASS_PATH, MOD_JSON_PATH};
 use crate::path::is_read;
 use wv_base::Folder;
 

@@ -134,11 +134,7 @@ impl Stack {
 }
 
 /// That plain code has a typing within the declared stack.
-pub(crate) fn check_typing(
-    alloc: Global,
-    max_stack: u16,
-    insns: &[Insn],
-) -> Result<(), PlainFault>
+pub(crate) fn check_typing(alloc: Global, max_stack: u16, insns: &[Insn]) -> Result<(), PlainFault>
     ensures { Tells result (HasTyping max_stack insns.now) }
 {
     let mut stack = Stack::new(alloc);
