@@ -1,3 +1,4 @@
+-- What stands at a key of a JSON object (RFC 8259, as serde_json reads it).
 use Rattle.std.specs.Prelude.{Option, Some, None}
 use Rattle.serde_json.specs.Data.{Data}
 use Rattle.wv_json.specs.declared.field.Field.{Field}

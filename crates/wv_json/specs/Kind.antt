@@ -1,3 +1,4 @@
+-- JSON values by their kinds (RFC 8259, as serde_json reads it).
 use Rattle.std.specs.Prelude.{◌≡◌, ◌⊎◌, ℕ, ℤ, Bool, FitsSigned, List, [], ◌∷◌, map}
 use Rattle.std.specs.Int.{w32}
 use Rattle.std.specs.Borrow.{Bor}

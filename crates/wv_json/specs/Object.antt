@@ -1,3 +1,4 @@
+-- A JSON text whose value is an object (RFC 8259, as serde_json reads it).
 use Rattle.std.specs.Prelude.{◌≡◌, ℕ, List, Some, IsUtf8}
 use Rattle.serde_json.specs.Data.{Data}
 use Rattle.serde_json.specs.Read.{read}

@@ -2,10 +2,10 @@
 use Rattle.std.proofs.Common.{◌≡◌, ℕ, suc, ◌<◌, ◌≤◌, ◌⊎◌, List, [], ◌∷◌, Option, Some, None, refl, sym, ap, ◌∙◌, subst, inl, inr, arith}
 use Rattle.wv_model.specs.Frame.{Frame, cleared}
 use Rattle.wv_model.specs.Course.{move, resumed}
-use Rattle.wv_model.specs.FrameRelation.{OneShared, one_shared, Running, IsQuiet, IsMatched, CatchAlike}
+use Rattle.wv_model.specs.FrameRelation.{OneShared, one_shared, Running, IsQuiet, IsMatched, CatchAlike, AlikeLater, LeaveAlike}
 use Rattle.wv_model.specs.FrameLaws.{FrameLaws}
 use Rattle.wv_model.specs.Threads.{ThreadLaws}
-use Rattle.wv_model.specs.Toy.{Instr, Idle, Say, Invoke, Throw, Catch, Return, Uncaught, Spot, At, blocks, expand, toy, toy_rules, frame_at, moved_to, behind_catch, caught_at, behind_catching_spot, hooked, woven, lead, ToyRuns, at_spot, at_call, at_end, ToyWaits, for_hook, for_instr, toy_relation}
+use Rattle.wv_model.specs.Toy.{Instr, Idle, Say, Invoke, Throw, Catch, Return, Uncaught, Spot, At, blocks, expand, toy, toy_rules, frame_at, moved_to, behind_catch, caught_at, behind_catching_spot, ToyEnding, hooked, woven, lead, ToyRuns, at_spot, at_call, at_end, ToyWaits, for_hook, for_instr, toy_relation}
 use Rattle.wv_model.proofs.Turns.{caught_agree}
 
 expanded : Option (List Spot) → Option (List Instr)
@@ -58,9 +58,12 @@ module _ (body : ℕ → List Spot) where
       let code = Throw number ∷ expand spots in
       let here = At [] (Throw number) ∷ spots in
       let catch = catch_alike said method locals stack code here (behind_catch code) (behind_catching_spot here) (catches_at here) in
-      inr (said, tt, refl, caught_agree toy_relation _ _ said method number number said said one_shared refl catch)
+      let frame = frame_at method code locals stack in
+      let hooked_frame = frame_at method here locals stack in
+      let (later, l, agree) = caught_agree (woven body) (hooked body) toy_relation _ _ frame hooked_frame said method number number said said tt one_shared catch (λ none. (suc said, tt, one_shared, refl)) in
+      inr (later, l, refl, agree)
   instr_law Catch said method spots locals stack = inr (said, tt, refl, (one_shared, (lead spots, at_spot)))
-  instr_law Return said method spots locals stack = inr (said, tt, refl, (one_shared, refl))
+  instr_law Return said method spots locals stack = inr (suc said, tt, refl, (one_shared, refl))
 
   spot_law : (spots : List Spot) (said method : ℕ) (locals stack : List ℕ) → Law said method (lead spots) (frame_at method (expand spots) locals stack) (frame_at method spots locals stack)
   unfolding Law
@@ -109,6 +112,12 @@ module _ (body : ℕ → List Spot) where
       let code = Invoke called ∷ expand spots in
       catch_alike w method locals stack code here (behind_catch code) (behind_catching_spot here) (catches_at here)
 
+  ends : (w : ℕ) (ending : ToyEnding) (h k : ℕ) → OneShared w h k → AlikeLater toy_relation w (suc h) (suc k)
+  ends w ending _ _ one_shared = (suc w, tt, one_shared)
+
+  leaves : (w thrown thrown' h k : ℕ) → OneShared w h k → thrown ≡ thrown' → LeaveAlike toy_relation w thrown thrown' (suc h) (suc k)
+  leaves w thrown thrown' _ _ one_shared e = (suc w, tt, one_shared, e)
+
   uncaught_alike : (w thrown thrown' h k : ℕ) → OneShared w h k → thrown ≡ thrown' → toy_rules.uncaught thrown h ≡ toy_rules.uncaught thrown' k
   uncaught_alike w thrown thrown' _ _ one_shared e = ap Uncaught e
 
@@ -116,6 +125,7 @@ module _ (body : ℕ → List Spot) where
   toy_laws factor most =
       record {
         same_world = λ w. tt;
+        later_still = λ w later last l m. tt;
         still_waits = λ w later method called f g l waits. still_waits w later method called f g waits;
         running_method = running_method;
         waiting_method = waiting_method;
@@ -123,6 +133,8 @@ module _ (body : ℕ → List Spot) where
         runs = runs;
         answered = answered;
         catches = catches;
+        leaves = λ w method called thrown thrown' f g h k alike waits throws none. leaves w thrown thrown' h k alike throws;
+        ends = ends;
         last_alike = λ w method value value' h k alike gives. refl;
         uncaught_alike = uncaught_alike;
       }

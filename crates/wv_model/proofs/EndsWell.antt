@@ -23,7 +23,9 @@ module _ (code : ℕ → List Instr) (each : (method : ℕ) → EndsWell (code m
   keeps_well method said _ locals stack (ahead {instr = Invoke called} well) =
       (tt, (called, waits_well well, runs_well (each called)))
   keeps_well method said _ locals stack (ahead {instr = Throw number} {code = left} well) =
-      caught_typed toy_typing _ tt method number said tt tt (catch_well method left (Throw number ∷ left) locals stack well)
+      let place = Throw number ∷ left in
+      let (later, l, keeps) = caught_typed (plain code) toy_typing _ (frame_at method place locals stack) tt method number said tt tt (catch_well method left place locals stack well) (λ none. (tt, tt, tt, tt)) in
+      keeps
   keeps_well method said _ locals stack (ahead {instr = Catch} well) = (tt, runs_well well)
   keeps_well method said _ locals stack (ahead {instr = Return} well) = (tt, tt)
 
@@ -52,6 +54,7 @@ module _ (code : ℕ → List Instr) (each : (method : ℕ) → EndsWell (code m
         runs = λ w method frame said sound well. (tt, tt, runs w method frame said well);
         answered = λ w method called value frame waits gives. answered w method called value frame waits;
         catches = λ w method called thrown frame said sound waits throws. catches w method called thrown frame said waits;
+        leaves = λ w method called thrown frame said sound waits throws none. (tt, tt, tt, tt);
       }
 
   pub starts_well : (method : ℕ) → RunsWell tt method ((plain code).enter method [])

@@ -2,16 +2,18 @@
 use Rattle.std.proofs.Common.{◌≡◌, ℕ, zero, suc, List, [], ◌∷◌, Option, Some, None, Bool, true, false, refl, sym, subst, inl, inr}
 use Rattle.wv_model.specs.Domain.{Domain}
 use Rattle.wv_model.specs.Machine.{unless_ended, advance, after}
-use Rattle.wv_model.specs.Frame.{Frame, struck}
+use Rattle.wv_model.specs.Frame.{Frame, struck, cleared}
 use Rattle.wv_model.specs.Control.{Control, Rules}
 use Rattle.wv_model.specs.Course.{Course, Goes, Calls, Gives, Leaves, Ends, Sticks, caught}
-use Rattle.wv_model.specs.Step.{Turn, State, pushed, given, thrown_from, settled, turn, step, machine, start}
-use Rattle.wv_model.specs.Typing.{FrameTyping, Keeps, CatchKeeps, TypingLaws, FramesStick, IsStuck, TypedBelow, none_typed, one_typed, TypedFrames, typed_running, typed_throwing, IsTyped, StateTyped}
+use Rattle.wv_model.specs.Step.{Turn, State, pushed, given, thrown_from, settled, shared_after, turn, step, machine, start}
+use Rattle.wv_model.specs.Typing.{FrameTyping, Keeps, CatchKeeps, LeaveKeeps, TypingLaws, FramesStick, IsStuck, TypedBelow, none_typed, one_typed, TypedFrames, typed_running, typed_throwing, IsTyped, StateTyped}
 
--- a frame that catches in its typing, or is left by the throw, keeps it
-pub caught_typed : {D : Domain} {P : Type 0} (T : FrameTyping D P) (o : Option (Frame D P)) (w : T.World) (method : D.Method) (thrown : D.Thrown) (shared : D.Shared) → T.Sound w shared → T.Thrown w thrown → CatchKeeps T w method o → Keeps T w method (caught o thrown shared)
-caught_typed T (Some frame) w method thrown shared sound throws catch = (sound, catch)
-caught_typed T None w method thrown shared sound throws catch = (sound, throws)
+-- a frame that catches in its typing, or is left in it where it doesn't catch, keeps it in a later world
+pub caught_typed : {D : Domain} {P : Type 0} (control : Control D P) (T : FrameTyping D P) (o : Option (Frame D P)) (frame : Frame D P) (w : T.World) (method : D.Method) (thrown : D.Thrown) (shared : D.Shared) → T.Later w w → T.Sound w shared → CatchKeeps T w method o → (o ≡ None → LeaveKeeps T w thrown (control.left frame shared)) → (later : T.World) × T.Later w later × Keeps T later method (caught control frame o thrown shared)
+caught_typed control T (Some handler) frame w method thrown shared same sound catch left = (w, same, (sound, catch))
+caught_typed control T None frame w method thrown shared same sound catch left =
+    let (later, l, sound', throws) = left refl in
+    (later, l, (sound', throws))
 
 module _ {D : Domain} {P : Type 0} (rules : Rules D) (control : Control D P) (T : FrameTyping D P) (law : TypingLaws rules control T) where
   abbrev Fine : Turn D P → Type 0
@@ -49,24 +51,40 @@ module _ {D : Domain} {P : Type 0} (rules : Rules D) (control : Control D P) (T 
   settled_typed (Ends ending shared') w method frame fs shared shown e below keeps = inr (ending, refl)
   settled_typed Sticks w method frame fs shared shown e below keeps = absurd keeps
 
+  closed_typed : (o : Option D.Ending) (frames : List (Frame D P)) (shared : D.Shared) → IsTyped T o frames shared → IsTyped T o frames (shared_after control o shared)
+  closed_typed None frames shared typed = typed
+  closed_typed (Some e) frames shared typed = inr (e, refl)
+
+  -- a throw that comes back into a frame that waits is caught in the typing, or leaves it
+  struck_typed : (o : Option (Frame D P)) (w : T.World) (method : D.Method) (thrown : D.Thrown) (frame : Frame D P) (fs : List (Frame D P)) (shared : D.Shared) → frame.method ≡ method → T.Sound w shared → TypedBelow T w method fs → CatchKeeps T w method o → (o ≡ None → LeaveKeeps T w thrown (control.left (cleared frame) shared)) → Fine (settled rules control (caught control (cleared frame) o thrown shared) [] (struck thrown frame) fs shared)
+  struck_typed (Some handler) w method thrown frame fs shared e sound below catch left =
+      settled_typed (Goes handler shared) w method (struck thrown frame) fs shared [] e below (sound, catch)
+  struck_typed None w method thrown frame fs shared e sound below catch left =
+      let (later, l, sound', throws) = left refl in
+      settled_typed (Leaves thrown (control.left (cleared frame) shared)) later method (struck thrown frame) fs shared [] e (below_later l below) (sound', throws)
+
   turn_typed : (w : T.World) (fs : List (Frame D P)) (shared : D.Shared) → T.Sound w shared → TypedFrames T w fs → Fine (turn rules control fs shared)
   turn_typed w _ shared sound (typed_running {method} {frame} {frames} runs below) =
       let (later, l, keeps) = law.runs w method frame shared sound runs in
-      settled_typed _ later method frame frames shared _ (law.running_method w method frame runs) (below_later l below) keeps
+      closed_typed _ _ _ (settled_typed _ later method frame frames shared _ (law.running_method w method frame runs) (below_later l below) keeps)
   turn_typed w _ shared sound (typed_throwing {method} {called} {thrown} {frame} {frames} waits throws below) =
-      let keeps = caught_typed T _ w method thrown shared sound throws (law.catches w method called thrown frame shared sound waits throws) in
-      settled_typed _ w method (struck thrown frame) frames shared [] (law.waiting_method w method called frame waits) below keeps
+      let catch = law.catches w method called thrown frame shared sound waits throws in
+      let leaves = law.leaves w method called thrown frame shared sound waits throws in
+      closed_typed _ _ _ (struck_typed _ w method thrown frame frames shared (law.waiting_method w method called frame waits) sound below catch leaves)
 
   never_sticks : (c : Course D P) (w : T.World) (method : D.Method) → Keeps T w method c → c ≡ Sticks → ⊥
   never_sticks c w method keeps e = subst (Keeps T w method) e keeps
+
+  caught_goes : (o : Option (Frame D P)) (frame : Frame D P) (thrown : D.Thrown) (shared : D.Shared) → caught control frame o thrown shared ≡ Sticks → ⊥
+  caught_goes (Some handler) frame thrown shared e = absurd cc
+  caught_goes None frame thrown shared e = absurd cc
 
   frames_go : (w : T.World) (fs : List (Frame D P)) (shared : D.Shared) → T.Sound w shared → TypedFrames T w fs → FramesStick control fs shared → ⊥
   frames_go w _ shared sound (typed_running {method} {frame} runs below) stuck =
       let (later, l, keeps) = law.runs w method frame shared sound runs in
       never_sticks _ later method keeps stuck
   frames_go w _ shared sound (typed_throwing {method} {called} {thrown} {frame} waits throws below) stuck =
-      let keeps = caught_typed T _ w method thrown shared sound throws (law.catches w method called thrown frame shared sound waits throws) in
-      never_sticks _ w method keeps stuck
+      caught_goes _ (cleared frame) thrown shared stuck
 
   advance_typed : (s : State D P) (o : Option D.Ending) → s.ending ≡ o → StateTyped T s → StateTyped T (unless_ended o s (step rules control s))
   advance_typed s (Some e) ended typed = typed

@@ -60,3 +60,12 @@ abbrev pub CatchAlike : {D : Domain} {P Q : Type 0} (R : FrameRelation D P Q) �
 CatchAlike {D} {P} {Q} R w method (Some f) (Some g) = Running R w method f g
 CatchAlike {D} {P} {Q} R w method None None = Unit {0}
 CatchAlike {D} {P} {Q} R w method _ _ = ⊥
+
+-- the shared parts are related in a later world
+abbrev pub AlikeLater : {D : Domain} {P Q : Type 0} (R : FrameRelation D P Q) → R.World → D.Shared → D.Shared → Type 0
+AlikeLater R w h k = (later : R.World) × R.Later w later × R.Alike later h k
+
+-- the shared parts and what is thrown are related in a later world
+abbrev pub LeaveAlike : {D : Domain} {P Q : Type 0} (R : FrameRelation D P Q) → R.World → D.Thrown → D.Thrown → D.Shared → D.Shared → Type 0
+LeaveAlike R w thrown thrown' h k =
+    (later : R.World) × R.Later w later × R.Alike later h k × R.Thrown later thrown thrown'

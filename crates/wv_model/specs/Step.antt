@@ -62,10 +62,26 @@ settled {D} {Place} rules control Sticks shown top below before =
 abbrev pub turn_of : {D : Domain} {Place : Type 0} → Rules D → Control D Place → Move D Place → Frame D Place → List (Frame D Place) → D.Shared → Turn D Place
 turn_of rules control move top below shared = settled rules control move.course move.shown top below shared
 
+-- what the end of a thread does to the shared part, where there is an end
+abbrev pub shared_after : {D : Domain} {Place : Type 0} → Control D Place → Option D.Ending → D.Shared → D.Shared
+shared_after {D} {Place} control None shared = shared
+shared_after {D} {Place} control (Some ending) shared = control.ended ending shared
+
+-- a turn with that done
+abbrev pub closed : {D : Domain} {Place : Type 0} → Control D Place → Turn D Place → Turn D Place
+closed {D} {Place} control turn =
+    record {
+      frames = turn.frames;
+      shared = shared_after control turn.ending turn.shared;
+      shown = turn.shown;
+      ending = turn.ending;
+    }
+
 -- one step of a thread
 abbrev pub turn : {D : Domain} {Place : Type 0} → Rules D → Control D Place → List (Frame D Place) → D.Shared → Turn D Place
 turn {D} {Place} rules control [] shared = record { frames = []; shared = shared; shown = []; ending = None }
-turn {D} {Place} rules control (top ∷ below) shared = turn_of rules control (move control top shared) top below shared
+turn {D} {Place} rules control (top ∷ below) shared =
+    closed control (turn_of rules control (move control top shared) top below shared)
 
 -- a state: the frames (top first), the shared part, what was shown so far, and the ending or none
 pub record State (D : Domain) (Place : Type 0) : Type 0 where

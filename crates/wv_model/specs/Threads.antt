@@ -10,7 +10,8 @@ use Rattle.wv_model.specs.FrameLaws.{FrameLaws}
 use Rattle.wv_model.specs.Lifted.{RelatedFrames}
 
 -- a state of threads: the frames of each and its ending or none, and the shared part and the trace of all. A thread that
--- isn't started, or can't go on, has a row that is stuck: its step leaves everything as it is
+-- isn't started, or can't go on, has a row that is stuck: its step leaves everything as it is. Rows don't see endings:
+-- what they need to know of one, `ended` of its thread's control has put into the shared part
 pub record ThreadsState (D : Domain) (Place : Type 0) : Type 0 where
   pub frames : ℕ → List (Frame D Place)
   pub endings : ℕ → Option D.Ending

@@ -6,7 +6,7 @@ use Rattle.wv_model.specs.Frame.{Frame}
 use Rattle.wv_model.specs.Control.{Control, Rules}
 use Rattle.wv_model.specs.FrameRelation.{FrameRelation, OneShared}
 use Rattle.wv_model.specs.Typing.{FrameTyping}
-use Rattle.wv_model.specs.Machine.{Run, run}
+use Rattle.wv_model.specs.Machine.{Run, after, run}
 use Rattle.wv_model.specs.Step.{machine, start}
 
 -- an instruction: to do nothing, show a number, call a method, throw a number, catch what was thrown before it, return
@@ -31,7 +31,8 @@ abbrev pub expand : List Spot → List Instr
 expand [] = []
 expand (At methods instr ∷ spots) = blocks methods (instr ∷ expand spots)
 
--- numbers and methods are numbers, a number is thrown and shown, and what is shared counts what was said
+-- numbers and methods are numbers, a number is thrown and shown, and what is shared counts what was said, the frames
+-- that were left and the threads that have ended
 pub data ToyEnding : Type 0 where
   Returned : ToyEnding
   Deep : ToyEnding
@@ -87,6 +88,8 @@ plain code =
       result = λ method value. value;
       answer = λ called value frame. record frame { place = behind frame.place };
       catch = λ thrown said frame. moved_to frame (behind_catch frame.place);
+      left = λ frame said. suc said;
+      ended = λ ending said. suc said;
     }
 
 -- the hook machine runs spots: it calls what is left of the first spot's methods, and then does its instruction
@@ -119,6 +122,8 @@ hooked body =
       result = λ method value. value;
       answer = λ called value frame. record frame { place = behind_spot frame.place };
       catch = λ thrown said frame. moved_to frame (behind_catching_spot frame.place);
+      left = λ frame said. suc said;
+      ended = λ ending said. suc said;
     }
 
 -- the plain machine over the woven code
@@ -188,6 +193,10 @@ example (suc (suc zero)) = At [] (Throw 9) ∷ At [] (Say 8) ∷ At [] Catch ∷
 example (suc (suc (suc zero))) = At [] (Throw 7) ∷ At [] Return ∷ []
 example (suc (suc (suc (suc zero)))) = At (3 ∷ []) (Say 6) ∷ At [] Return ∷ []
 example _ = []
+
+-- what is shared after a run of a method of the example under its hooks
+abbrev pub hooked_count : ℕ → ℕ → ℕ
+hooked_count method n = (after (machine toy_rules (hooked example)) n (start ((hooked example).enter method []) 0)).shared
 
 -- the run of a method of the example under its hooks, and woven
 abbrev pub hooked_example : ℕ → ℕ → Run ℕ ToyEnding

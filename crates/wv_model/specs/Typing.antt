@@ -33,6 +33,10 @@ abbrev pub CatchKeeps : {D : Domain} {P : Type 0} (T : FrameTyping D P) → T.Wo
 CatchKeeps {D} {P} T w method (Some frame) = T.Runs w method frame
 CatchKeeps {D} {P} T w method None = Unit {0}
 
+-- a frame that is left keeps what is known of the shared part and of what is thrown, in a later world
+abbrev pub LeaveKeeps : {D : Domain} {P : Type 0} (T : FrameTyping D P) → T.World → D.Thrown → D.Shared → Type 0
+LeaveKeeps T w thrown shared = (later : T.World) × T.Later w later × T.Sound later shared × T.Thrown later thrown
+
 -- what a machine owes of single frames
 pub record TypingLaws {D : Domain} {P : Type 0} (rules : Rules D) (control : Control D P) (T : FrameTyping D P) : Type 0 where
   pub still_waits : (w later : T.World) (method called : D.Method) (frame : Frame D P) → T.Later w later → T.Waits w method called frame → T.Waits later method called frame
@@ -44,6 +48,8 @@ pub record TypingLaws {D : Domain} {P : Type 0} (rules : Rules D) (control : Con
   pub answered : (w : T.World) (method called : D.Method) (value : Option D.Value) (frame : Frame D P) → T.Waits w method called frame → T.Given w called value → T.Runs w method (resumed rules control called value frame)
   -- what waits and catches runs
   pub catches : (w : T.World) (method called : D.Method) (thrown : D.Thrown) (frame : Frame D P) (shared : D.Shared) → T.Sound w shared → T.Waits w method called frame → T.Thrown w thrown → CatchKeeps T w method (control.catch thrown shared (cleared frame))
+  -- what waits and doesn't catch is left in the typing
+  pub leaves : (w : T.World) (method called : D.Method) (thrown : D.Thrown) (frame : Frame D P) (shared : D.Shared) → T.Sound w shared → T.Waits w method called frame → T.Thrown w thrown → control.catch thrown shared (cleared frame) ≡ None → LeaveKeeps T w thrown (control.left (cleared frame) shared)
 
 -- the top frame's step can do nothing, or there is no frame
 abbrev pub FramesStick : {D : Domain} {P : Type 0} → Control D P → List (Frame D P) → D.Shared → Type 0

@@ -1,3 +1,4 @@
+-- A list of pieces with dots between them (our own).
 use Rattle.std.specs.Prelude.{◌≡◌, ℕ, ◌<◌, List, [], ◌∷◌, length}
 use Rattle.std.specs.List.{join_with_byte}
 

@@ -1,3 +1,4 @@
+-- Versions of the dotted form, as they are spelled (our own, after Fabric Loader).
 use Rattle.std.specs.Prelude.{◌≡◌, ◌⊎◌, ℕ, ◌<◌, ◌||◌, ◌==◌, IsTrue, List, [], ◌∷◌, ◌++◌, length, Option, Some, None, IfSome, slice_index}
 use Rattle.std.specs.List.{AllByRecursion}
 use Rattle.wv_version.specs.declared.dotted.Dotted.{Dotted}

@@ -1,3 +1,4 @@
+-- Decimal numbers of 1 to 18 digits (our own).
 use Rattle.std.specs.Prelude.{◌≡◌, ℕ, ◌<◌, ◌≤◌, List, length}
 use Rattle.std.specs.Str.Parse.{AllDigits, digits_value}
 

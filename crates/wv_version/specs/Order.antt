@@ -1,3 +1,4 @@
+-- The order of versions, by the first place of difference (our own, after Fabric Loader).
 use Rattle.std.specs.Prelude.{◌≡◌, ℕ, ◌<◌, List, Option, Some, None, slice_get}
 
 -- at the first place where first and second differ, first is the lower one

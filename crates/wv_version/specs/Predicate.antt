@@ -1,3 +1,4 @@
+-- Predicates: the terms that a version has to meet (our own, after Fabric Loader).
 use Rattle.std.specs.Prelude.{◌≡◌, ℕ, List, length, nat_lt, filter, All}
 use Rattle.std.specs.List.{join_with_byte, AllByRecursion}
 use Rattle.wv_version.specs.declared.version.Version.{Version}

@@ -1,3 +1,4 @@
+-- What stands before the version in a term, and which versions that allows (our own, after Fabric Loader).
 use Rattle.std.specs.Prelude.{◌≡◌, ◌≢◌, ℕ, List, ◌∷◌, ◌++◌, codes, slice_index}
 use Rattle.wv_version.specs.declared.dotted.Dotted.{Dotted}
 use Rattle.wv_version.specs.declared.relation.Relation.{Relation}

@@ -1,3 +1,4 @@
+-- The terms of a predicate (our own, after Fabric Loader).
 use Rattle.std.specs.Prelude.{◌≡◌, ◌≢◌, ◌⊎◌, ℕ, List, [], ◌∷◌, ◌++◌, codes, slice_index, EachIndex}
 use Rattle.wv_version.specs.declared.version.Version.{Version}
 use Rattle.wv_version.specs.declared.version.Version.TheVariants as version

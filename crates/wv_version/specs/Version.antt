@@ -1,3 +1,4 @@
+-- Versions, dotted or plain, as texts spell them (our own, after Fabric Loader).
 use Rattle.std.specs.Prelude.{◌≡◌, ℕ, List}
 use Rattle.wv_version.specs.declared.dotted.Dotted.{Dotted}
 use Rattle.wv_version.specs.declared.version.Version.{Version}
