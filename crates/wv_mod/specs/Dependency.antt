@@ -1,29 +1,23 @@
-use Rattle.std.specs.Prelude.{◌≡◌, ℕ, List, [], ◌∷◌}
+use Rattle.std.specs.Prelude.{◌≡◌, ℕ, List}
+use Rattle.std.specs.List.{AllZip}
 use Rattle.wv_version.specs.declared.predicate.Predicate.{Predicate}
 use Rattle.wv_version.specs.Predicate.{IsPredicate}
 use Rattle.wv_mod.specs.declared.dependency.Requirement.{Requirement}
 use Rattle.wv_mod.specs.declared.dependency.Dependency.{Dependency}
-
--- the lists are of one length, and what stands at one place is related
-abbrev pub EachRelates : {A B : Type 0} → (A → B → Type 0) → List A → List B → Type 0
-EachRelates Relates [] [] = Unit {0}
-EachRelates Relates [] (y ∷ ys) = ⊥
-EachRelates Relates (x ∷ xs) [] = ⊥
-EachRelates Relates (x ∷ xs) (y ∷ ys) = Relates x y × EachRelates Relates xs ys
 
 -- the text, and the predicate that it spells
 abbrev pub IsRequirement : List ℕ → Requirement → Type 0
 IsRequirement text requirement = (requirement.text ≡ text) × IsPredicate text requirement.predicate
 
 abbrev pub AreRequirements : List (List ℕ) → List Requirement → Type 0
-AreRequirements texts requirements = EachRelates IsRequirement texts requirements
+AreRequirements texts requirements = AllZip IsRequirement texts requirements
 
 -- the id and the texts of an entry, read as predicates (fabric.mod.json, `depends`)
 abbrev pub IsDependency : List ℕ × List (List ℕ) → Dependency → Type 0
 IsDependency entry dependency = (dependency.id ≡ entry.0) × AreRequirements entry.1 dependency.any_of
 
 abbrev pub AreDependencies : List (List ℕ × List (List ℕ)) → List Dependency → Type 0
-AreDependencies entries dependencies = EachRelates IsDependency entries dependencies
+AreDependencies entries dependencies = AllZip IsDependency entries dependencies
 
 -- the texts of an entry
 abbrev pub texts_of : List ℕ × List (List ℕ) → List (List ℕ)

@@ -23,10 +23,7 @@ pub struct MixinConfig {
 }
 
 /// The configurations at the key `mixins`, which are none where the key isn't there.
-pub(crate) fn mixins_at(
-    alloc: Global,
-    value: &Value,
-) -> Result<Option<Items<MixinConfig>>, Memory>
+pub(crate) fn mixins_at(alloc: Global, value: &Value) -> Result<Option<Items<MixinConfig>>, Memory>
     ensures { IfOk result
         (IsFound (IsOptional IsMixinList [] (get (codes "mixins") (view value.now)))) }
 {

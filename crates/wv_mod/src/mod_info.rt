@@ -32,12 +32,7 @@ pub struct ModInfo {
 
 /// The mod whose description (fabric.mod.json, schema version 1) has this path and these bytes. A
 /// fault is the first of the rules 11 to 14 that the description breaks, with the path as its place.
-pub fn read_mod(
-    alloc: Global,
-    path: &Text,
-    bytes: &[u8],
-    side: Side,
-) -> Result<ModInfo, ModFault>
+pub fn read_mod(alloc: Global, path: &Text, bytes: &[u8], side: Side) -> Result<ModInfo, ModFault>
     ensures read { IfOk result (IsMod path.now bytes.now side) }
     ensures fault { IfErr result (IsModFault path.now bytes.now) }
 {
