@@ -1,9 +1,8 @@
 -- Lists of mixin configurations: a loop over their items.
 use Rattle.std.proofs.Common.{◌≡◌, ℕ, zero, suc, ◌+◌, ◌<◌, List, [], ◌∷◌, ◌++◌, length, get_or, take, arith, ap, sym, ◌∙◌, subst}
 use Rattle.std.proofs.lemmas.List.{take_more}
-use Rattle.std.proofs.Math.Seq.{take-length}
 use Rattle.serde_json.specs.declared.value.Value.{Value}
-use Rattle.serde_json.specs.Data.{Data, array, Items}
+use Rattle.serde_json.specs.Data.{array, Items}
 use Rattle.serde_json.specs.View.{view, items_view}
 use Rattle.wv_mod.specs.declared.mixin.MixinConfig.{MixinConfig}
 use Rattle.wv_mod.specs.Mixins.{IsMixinEntry, AreMixins, IsMixinList}
@@ -19,10 +18,6 @@ pub mixins-push : (list : List Value) (i : ℕ) (read : List MixinConfig) (v : V
 mixins-push list i read v x inside at h one =
     let whole : take (i + 1) list ≡ take i list ++ v ∷ [] = take_more list i v inside ∙ ap (λ w. take i list ++ w ∷ []) (sym at) in
     subst (λ (vs : List Value). AreMixins (items_view vs) (read ++ x ∷ [])) (sym whole) (mixins-append (take i list) read v x h one)
-
--- all items are read
-pub mixins-end : (list : List Value) (read : List MixinConfig) → AreMixins (items_view (take (length list) list)) read → IsMixinList (array (items_view list)) read
-mixins-end list read h = (items_view (take (length list) list), ap (λ vs. array (items_view vs)) (sym (take-length list)), h)
 
 middle : (list : List Value) (i : ℕ) (d : Value) (read : List MixinConfig) → i < length list → AreMixins (items_view list) read → (x : MixinConfig) × IsMixinEntry (view (get_or list i d)) x
 middle [] i d read inside h = absurd (omega arith)

@@ -2,7 +2,7 @@
 use Rattle.std.proofs.Common.{◌≡◌, ℕ, ◌+◌, ◌<◌, List, [], ◌∷◌, ◌++◌, length, get_or, take, drop, ap, sym, ◌∙◌, subst, add-one}
 use Rattle.std.specs.List.{AllByRecursion}
 use Rattle.std.proofs.lemmas.List.{take_more, take-append-drop}
-use Rattle.std.proofs.Math.Seq.{take-length, drop-cons}
+use Rattle.std.proofs.Math.Seq.{drop-cons}
 use Rattle.std.specs.List.{AllZip}
 
 append : {A B : Type 0} (R : A → B → Type 0) (xs : List A) (ys : List B) (x : A) (y : B) → AllZip R xs ys → R x y → AllZip R (xs ++ x ∷ []) (ys ++ y ∷ [])
@@ -16,10 +16,6 @@ pub relates-push : {A B : Type 0} (R : A → B → Type 0) (list : List A) (i : 
 relates-push {A} {B} R list i ys x y inside at h one =
     let whole : take (i + 1) list ≡ take i list ++ x ∷ [] = take_more list i x inside ∙ ap (λ w. take i list ++ w ∷ []) (sym at) in
     subst (λ (ws : List A). AllZip R ws (ys ++ y ∷ [])) (sym whole) (append R (take i list) ys x y h one)
-
--- all
-pub relates-end : {A B : Type 0} (R : A → B → Type 0) (list : List A) (ys : List B) → AllZip R (take (length list) list) ys → AllZip R list ys
-relates-end {A} R list ys h = subst (λ (ws : List A). AllZip R ws ys) (take-length list) h
 
 -- what is read has what reading shows
 pub relates-each : {A B : Type 0} (R : A → B → Type 0) (Has : A → Type 0) → ((x : A) (y : B) → R x y → Has x) → (xs : List A) (ys : List B) → AllZip R xs ys → AllByRecursion Has xs

@@ -13,7 +13,7 @@ use Rattle.wv_mod.specs.declared.fault.Stop.TheVariants as stop
 use Rattle.wv_mod.specs.declared.dependency.Requirement.{Requirement}
 use Rattle.wv_mod.specs.declared.dependency.Dependency.{Dependency}
 use Rattle.wv_mod.specs.declared.manifest.Manifest.{Manifest}
-use Rattle.wv_mod.specs.Dependency.{IsRequirement, AreRequirements, IsDependency, AreDependencies, texts_of, SpellsPredicate}
+use Rattle.wv_mod.specs.Dependency.{IsRequirement, AreRequirements, AreDependencies, texts_of, SpellsPredicate}
 use Rattle.wv_mod.specs.Manifest.{IsManifest}
 use Rattle.wv_mod.specs.Id.{first_bad_id}
 use Rattle.wv_mod.specs.Flaw.{IsFirstWithout, HasNoJars, IsStopAtPredicate, IsStop}

@@ -9,6 +9,7 @@ use Rattle.wv_mod.specs.declared.dependency.Dependency.{Dependency}
 abbrev pub IsRequirement : List ℕ → Requirement → Type 0
 IsRequirement text requirement = (requirement.text ≡ text) × IsPredicate text requirement.predicate
 
+-- the predicates that the texts spell, in their order
 abbrev pub AreRequirements : List (List ℕ) → List Requirement → Type 0
 AreRequirements texts requirements = AllZip IsRequirement texts requirements
 
@@ -16,6 +17,7 @@ AreRequirements texts requirements = AllZip IsRequirement texts requirements
 abbrev pub IsDependency : List ℕ × List (List ℕ) → Dependency → Type 0
 IsDependency entry dependency = (dependency.id ≡ entry.0) × AreRequirements entry.1 dependency.any_of
 
+-- the entries, in their order
 abbrev pub AreDependencies : List (List ℕ × List (List ℕ)) → List Dependency → Type 0
 AreDependencies entries dependencies = AllZip IsDependency entries dependencies
 

@@ -51,6 +51,7 @@ abbrev pub IsFlawOf : List ℕ → Flaw → Type 0
 IsFlawOf bytes flaw = ((flaw ≡ Json) × ((value : Data) → IsObjectText bytes value → ⊥))
     ⊎ ((value : Data) × IsObjectText bytes value × IsFlaw value flaw)
 
+-- the rule that the flaw breaks (our own numbers)
 abbrev pub rule_of : Flaw → Rule
 rule_of Json = ModBad
 rule_of (Key key) = ModBad

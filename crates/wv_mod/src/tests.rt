@@ -22,10 +22,27 @@ fn line(alloc: Global, text: &str) -> Result<String, Fail> {
     }
 }
 
+/// A description with these keys besides those that it needs.
+fn with_keys(alloc: Global, keys: &str) -> Result<String, Fail> {
+    let mut text = String::from_str(alloc, r#"{"schemaVersion":1,"id":"alpha","version":"1","#)?;
+    text.push_str(keys)?;
+    text.push('}')?;
+    Ok(text)
+}
+
+/// The line that refuses a description.
+fn refusal(alloc: Global, rule: &str, found: &str) -> Result<String, Fail> {
+    let mut line = String::from_str(alloc, "refused: rule ")?;
+    line.push_str(rule)?;
+    line.push_str(" at mods/alpha/fabric.mod.json wanted - found ")?;
+    line.push_str(found)?;
+    line.push('\n')?;
+    Ok(line)
+}
+
 #[test]
 fn what_breaks_a_rule(rt: HostRuntime) -> Result<(), Fail> {
     let alloc = rt.alloc();
-    let head = r#"{"schemaVersion":1,"id":"alpha","version":"1""#;
     for (text, rule, found) in [
         ("", "11 ModBad", "json"),
         ("[]", "11 ModBad", "json"),
@@ -57,9 +74,7 @@ fn what_breaks_a_rule(rt: HostRuntime) -> Result<(), Fail> {
             "a",
         ),
     ] {
-        let wanted = format!(in alloc;
-            "refused: rule {rule} at mods/alpha/fabric.mod.json wanted - found {found}\n"
-        )?;
+        let wanted = refusal(alloc, rule, found)?;
         assert_eq!(rt; line(alloc, text)?.as_str(), wanted.as_str(), "{text}");
     }
     for (keys, rule, found) in [
@@ -96,10 +111,8 @@ fn what_breaks_a_rule(rt: HostRuntime) -> Result<(), Fail> {
             ">y",
         ),
     ] {
-        let text = format!(in alloc; "{head},{keys}}}")?;
-        let wanted = format!(in alloc;
-            "refused: rule {rule} at mods/alpha/fabric.mod.json wanted - found {found}\n"
-        )?;
+        let text = with_keys(alloc, keys)?;
+        let wanted = refusal(alloc, rule, found)?;
         assert_eq!(rt;
             line(alloc, text.as_str())?.as_str(),
             wanted.as_str(),

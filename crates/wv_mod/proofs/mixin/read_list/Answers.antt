@@ -1,4 +1,4 @@
-use Rattle.wv_mod.proofs.Mixing.{mixins-none, mixins-push, mixins-end}
+use Rattle.wv_mod.proofs.Mixing.{mixins-none, mixins-push}
 use Rattle.wv_mod.proofs.mixin.read_list.Goals as goal
 
 pub returns-in_default : goal.returns-in_default
