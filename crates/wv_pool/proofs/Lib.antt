@@ -7,3 +7,6 @@ pub mod Faults
 pub mod FactTables
 pub mod Entire
 pub mod PoolReads
+pub mod KeyNumbers
+pub mod Behind
+pub mod Numbering

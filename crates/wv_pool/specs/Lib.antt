@@ -5,3 +5,6 @@ pub mod References
 pub mod Facts
 pub mod Constants
 pub mod Answers
+pub mod Keys
+pub mod Index
+pub mod Numbers

@@ -4,6 +4,8 @@
 mod entry;
 mod fact_table;
 mod facts;
+mod index;
+mod key;
 mod layout;
 mod length;
 mod pool;
