@@ -52,6 +52,11 @@ module _ (number : Key → Option ℕ) where
   find_key (constants.MethodType descriptor) = option_map (λ n. keys.MethodType n) (text_number descriptor)
   find_key (constants.InvokeDynamic bootstrap name descriptor) = option_map (λ n. keys.InvokeDynamic bootstrap n) (pair_number name descriptor)
 
+  -- the same of the constants that are no texts
+  abbrev pub other_key : Const → Option Key
+  other_key (constants.Utf8 name) = None
+  other_key c = find_key c
+
   -- the number of a constant
   abbrev pub number_for : Const → Option ℕ
   number_for c = option_and_then number (find_key c)
