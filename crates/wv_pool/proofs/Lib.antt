@@ -10,3 +10,4 @@ pub mod PoolReads
 pub mod KeyNumbers
 pub mod Behind
 pub mod Numbering
+pub mod Growing

@@ -8,3 +8,4 @@ pub mod Answers
 pub mod Keys
 pub mod Index
 pub mod Numbers
+pub mod Adding

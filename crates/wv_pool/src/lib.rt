@@ -1,6 +1,7 @@
 //! The constant pool of a class file (JVM Specification 4.4).
 #![tactic(auto)]
 
+mod add;
 mod entry;
 mod fact_table;
 mod facts;
@@ -15,6 +16,7 @@ mod soundness;
 mod stop;
 mod writing;
 
+pub use add::PoolFault;
 pub use pool::Pool;
 pub use reading::{read_layout, read_pool};
 pub use soundness::first_break;
