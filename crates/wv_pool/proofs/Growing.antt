@@ -33,10 +33,10 @@ grows kind none pool more n a h = go (entry_of pool n) refl h
 pub text_grows : (pool more : List PoolEntry) (n : ℕ) (x : List ℕ) → text_of pool n ≡ Some x → text_of (pool ++ more) n ≡ Some x
 text_grows pool more n x h = grows text_in refl pool more n x h
 
-class_grows : (pool more : List PoolEntry) (n p : ℕ) → class_of pool n ≡ Some p → class_of (pool ++ more) n ≡ Some p
+pub class_grows : (pool more : List PoolEntry) (n p : ℕ) → class_of pool n ≡ Some p → class_of (pool ++ more) n ≡ Some p
 class_grows pool more n p h = grows class_in refl pool more n p h
 
-pair_grows : (pool more : List PoolEntry) (n : ℕ) (p : ℕ × ℕ) → pair_of pool n ≡ Some p → pair_of (pool ++ more) n ≡ Some p
+pub pair_grows : (pool more : List PoolEntry) (n : ℕ) (p : ℕ × ℕ) → pair_of pool n ≡ Some p → pair_of (pool ++ more) n ≡ Some p
 pair_grows pool more n p h = grows pair_in refl pool more n p h
 
 both_some : (a b : Option (List ℕ)) (p : List ℕ × List ℕ) → both a b ≡ Some p → (a ≡ Some p.0) × (b ≡ Some p.1)

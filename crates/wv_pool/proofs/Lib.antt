@@ -11,3 +11,5 @@ pub mod KeyNumbers
 pub mod Behind
 pub mod Numbering
 pub mod Growing
+pub mod SoundPools
+pub mod Putting

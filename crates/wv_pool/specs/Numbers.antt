@@ -74,6 +74,10 @@ Mentions (keys.MethodType n) m = n ≡ m
 Mentions (keys.InvokeDynamic bootstrap n) m = n ≡ m
 Mentions key m = ⊥
 
+-- the numbers of a pool
+abbrev pub IsIn : List PoolEntry → ℕ → Type 0
+IsIn pool n = n ≤ length pool
+
 -- An index of a pool, of which these numbers were entered: it has for each constant that one of them names
 -- the least that does.
 pub record Enters (pool : List PoolEntry) (entered : ℕ → Type 0) (number : Key → Option ℕ) : Type 0 where

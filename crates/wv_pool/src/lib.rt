@@ -10,7 +10,6 @@ mod key;
 mod layout;
 mod length;
 mod pool;
-mod reading;
 mod reference;
 mod soundness;
 mod stop;
@@ -18,8 +17,5 @@ mod writing;
 
 pub use add::PoolFault;
 pub use pool::Pool;
-pub use reading::{read_layout, read_pool};
 pub use soundness::first_break;
 
-#[cfg(test)]
-mod tests;
