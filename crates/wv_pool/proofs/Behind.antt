@@ -1,5 +1,6 @@
 -- What entry stands behind a constant.
-use Rattle.std.proofs.Common.{◌≡◌, ℕ, ◌+◌, Bool, true, false, List, [], ◌∷◌, Option, Some, None, refl, sym, ap, subst, ◌∙◌, arith}
+use Rattle.std.proofs.Common.{◌≡◌, ℕ, ◌+◌, Bool, true, false, cond, List, [], ◌∷◌, Option, Some, None, refl, sym, ap, subst, ◌∙◌, arith}
+use Rattle.std.specs.Prelude.{nat_eq, nat_lt}
 use Rattle.std.specs.Option.{option_map, option_and_then}
 use Rattle.wv_base.specs.declared.class_file.PoolEntry.{PoolEntry}
 use Rattle.wv_base.specs.declared.class_file.PoolEntry.TheVariants as entries
@@ -7,10 +8,11 @@ use Rattle.wv_base.specs.declared.constant.Const.{Const}
 use Rattle.wv_base.specs.declared.constant.Const.TheVariants as constants
 use Rattle.wv_base.specs.declared.constant.MemberReference.{MemberReference}
 use Rattle.wv_pool.specs.References.{entry_of, text_in, text_of, class_in, class_of, pair_in, pair_of}
+use Rattle.wv_pool.specs.Building.{level_in}
 use Rattle.wv_pool.specs.Constants.{class_name, both, pair_texts, named_pair, member_of, member, handle, constant_in, constant_of}
 
 -- the tag of a constant's entry; a method's is one of two
-const_tag : Const → ℕ
+pub const_tag : Const → ℕ
 const_tag (constants.Utf8 x) = 1
 const_tag (constants.Integer v) = 3
 const_tag (constants.Float b) = 4
@@ -59,7 +61,7 @@ handle_tag pool kind (Some (entries.MethodType n)) c e = absurd cc
 handle_tag pool kind (Some (entries.InvokeDynamic m n)) c e = absurd cc
 handle_tag pool kind (Some entries.Unusable) c e = absurd cc
 
-entry_tag : PoolEntry → ℕ
+pub entry_tag : PoolEntry → ℕ
 entry_tag (entries.Utf8 x) = 1
 entry_tag (entries.Integer v) = 3
 entry_tag (entries.Float b) = 4
@@ -76,7 +78,29 @@ entry_tag (entries.MethodType n) = 16
 entry_tag (entries.InvokeDynamic m n) = 18
 entry_tag entries.Unusable = 0
 
-tag_is : (pool : List PoolEntry) (e : PoolEntry) (c : Const) → constant_in pool e ≡ Some c → entry_tag e ≡ const_tag c
+-- the level of an entry with a tag
+pub tag_level : ℕ → ℕ
+tag_level t = cond (nat_eq t 0) 4 (cond (nat_lt t 7) 0 (cond (nat_lt t 9) 1 (cond (nat_lt t 12) 2 (cond (nat_eq t 12) 1 (cond (nat_eq t 15) 3 (cond (nat_eq t 16) 1 2))))))
+
+pub level_is : (e : PoolEntry) → level_in e ≡ tag_level (entry_tag e)
+unfolding tag_level entry_tag
+level_is (entries.Utf8 x) = refl
+level_is (entries.Integer v) = refl
+level_is (entries.Float b) = refl
+level_is (entries.Long v) = refl
+level_is (entries.Double b) = refl
+level_is (entries.Class n) = refl
+level_is (entries.String n) = refl
+level_is (entries.Field m n) = refl
+level_is (entries.Method m n) = refl
+level_is (entries.InterfaceMethod m n) = refl
+level_is (entries.NameAndType m n) = refl
+level_is (entries.MethodHandle m n) = refl
+level_is (entries.MethodType n) = refl
+level_is (entries.InvokeDynamic m n) = refl
+level_is entries.Unusable = refl
+
+pub tag_is : (pool : List PoolEntry) (e : PoolEntry) (c : Const) → constant_in pool e ≡ Some c → entry_tag e ≡ const_tag c
 unfolding const_tag entry_tag
 tag_is pool (entries.Utf8 x) c e = ap const_tag (some_is (constants.Utf8 x) c e)
 tag_is pool (entries.Integer v) c e = ap const_tag (some_is (constants.Integer v) c e)

@@ -13,3 +13,4 @@ pub mod Numbering
 pub mod Growing
 pub mod SoundPools
 pub mod Putting
+pub mod Entering

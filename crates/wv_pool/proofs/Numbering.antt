@@ -242,7 +242,15 @@ module _ (pool : List PoolEntry) (entered : ℕ → Type 0) (old new : Key → O
   made (constants.MethodHandle kind m i) = map_made (λ n. keys.MethodHandle kind n) (option_and_then old (handled_key old kind m i)) (option_and_then new (handled_key new kind m i)) refl (handled_later kind m i)
   made (constants.InvokeDynamic b x y) = map_made (λ n. keys.InvokeDynamic b n) (pair_number old x y) (pair_number new x y) refl (pair_later x y)
 
-  number_now : number_for new c ≡ Some n
+  -- a number that was known stays
+  pub number_kept : (d : Const) (f : ℕ) → number_for old d ≡ Some f → number_for new d ≡ Some f
+  number_kept d f h = go (settled_of d (made d))
+    where
+      go : Settled d → number_for new d ≡ Some f
+      go (inl e) = e ∙ h
+      go (inr e) = let never : ◌≡◌ {A = Option ℕ} None (Some f) = sym none_before ∙ ap (number_for old) (sym e.0) ∙ h in absurd cc
+
+  pub number_now : number_for new c ≡ Some n
   number_now = go (made c)
     where
       go : Made (find_key old c) (find_key new c) → number_for new c ≡ Some n

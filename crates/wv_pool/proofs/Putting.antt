@@ -1,6 +1,6 @@
 -- Putting a constant that no number names yet.
-use Rattle.std.proofs.Common.{◌≡◌, ◌≢◌, ℕ, zero, suc, ◌+◌, ◌≤◌, ◌<◌, ◌-◌, ◌^◌, Bool, true, false, cond, List, [], ◌∷◌, ◌++◌, length, Option, Some, None, refl, sym, ap, subst, ◌∙◌, ◌⊎◌, inl, inr, arith, add-one}
-use Rattle.std.specs.Prelude.{slice_get, IsSomeAnd, IfSome, IfNone, nat_le}
+use Rattle.std.proofs.Common.{◌≡◌, ◌≢◌, ℕ, zero, suc, ◌+◌, ◌≤◌, ◌<◌, ◌-◌, ◌^◌, Bool, true, false, cond, List, [], ◌∷◌, ◌++◌, length, Option, Some, None, refl, sym, ap, subst, ◌∙◌, ◌⊎◌, inl, inr, arith, add-one, lit≤}
+use Rattle.std.specs.Prelude.{slice_get, IsSomeAnd, IfSome, IfNone, nat_le, unwrap_or}
 use Rattle.std.specs.Option.{option_map, option_and_then}
 use Rattle.std.specs.List.{AllByRecursion}
 use Rattle.std.proofs.lemmas.List.{length-append}
@@ -20,6 +20,7 @@ use Rattle.wv_pool.specs.Constants.{class_name, both, pair_texts, named_pair, me
 use Rattle.wv_pool.specs.Index.{Inserts}
 use Rattle.wv_pool.specs.Numbers.{two, text_number, class_number, pair_number, member_key, method_key, handled_key, find_key, number_for, Mentions, IsIn, Enters, IsLeast, Named}
 use Rattle.wv_pool.specs.Adding.{slots_of}
+use Rattle.wv_pool.specs.Building.{level_in, level_at, key_with}
 use Rattle.wv_pool.proofs.Behind.{some_is, map_some, then_some}
 use Rattle.wv_pool.proofs.Growing.{constant_grows, constant_in_grows}
 use Rattle.wv_pool.proofs.SoundPools.{some_and, pair_entry, class_entry, sound_at, constant_back, pool_grows}
@@ -67,89 +68,142 @@ member_some (Some x) (Some p) m e = let made : MemberReference = record { owner 
 member_some (Some x) None m e = absurd cc
 member_some None b m e = absurd cc
 
-module _ (pool : List PoolEntry) (number : Key → Option ℕ) (right : Enters pool (IsIn pool) number) where
-  there : (c : Const) (n : ℕ) → constant_of pool n ≡ Some c → (m : ℕ) × (number_for number c ≡ Some m)
-  there c n e = let s = some_and (number_for number c) (λ first. first ≤ n) (right.least c n (number_in pool n c e) e) in (s.0, s.1)
+-- a reader of numbers that gives, of each number below a level, the one that the index has of its constant
+module _ (pool : List PoolEntry) (number : Key → Option ℕ) (first : ℕ → ℕ) (level : ℕ)
+    (there : (n : ℕ) (c : Const) → level_at (entry_of pool n) < level → constant_of pool n ≡ Some c → number_for number c ≡ Some (first n)) where
+  text_there : (n : ℕ) (x : List ℕ) → 0 < level → text_of pool n ≡ Some x → text_number number x ≡ Some (first n)
+  text_there n x low e = let is = text_entry (entry_of pool n) x e in there n (constants.Utf8 x) (below (entry_of pool n) 0 is low) (ap (option_and_then (constant_in pool)) is)
+    where
+      below : (o : Option PoolEntry) (k : ℕ) → o ≡ Some (entries.Utf8 x) → 0 < level → level_at o < level
+      below o k is low = rw is low
 
-  text_there : (n : ℕ) (x : List ℕ) → text_of pool n ≡ Some x → (m : ℕ) × (text_number number x ≡ Some m)
-  text_there n x e = there (constants.Utf8 x) n (ap (option_and_then (constant_in pool)) (text_entry (entry_of pool n) x e))
-
-  class_there : (n : ℕ) (x : List ℕ) → class_name pool n ≡ Some x → (m : ℕ) × (class_number number x ≡ Some m)
-  class_there n x e =
+  class_there : (n : ℕ) (x : List ℕ) → 1 < level → class_name pool n ≡ Some x → class_number number x ≡ Some (first n)
+  class_there n x low e =
       let t = then_some (text_of pool) (class_of pool n) x e in
-      there (constants.Class x) n (ap (option_and_then (constant_in pool)) (class_entry (entry_of pool n) t.0 t.1) ∙ ap (option_map (λ y. constants.Class y)) t.2)
+      let is = class_entry (entry_of pool n) t.0 t.1 in
+      there n (constants.Class x) (rw is low) (ap (option_and_then (constant_in pool)) is ∙ ap (option_map (λ y. constants.Class y)) t.2)
 
-  pair_there : (n : ℕ) (p : List ℕ × List ℕ) → named_pair pool n ≡ Some p → (m : ℕ) × (pair_number number p.0 p.1 ≡ Some m)
-  pair_there n p e =
+  pair_there : (n : ℕ) (p : List ℕ × List ℕ) → 1 < level → named_pair pool n ≡ Some p → pair_number number p.0 p.1 ≡ Some (first n)
+  pair_there n p low e =
       let t = texts_some pool (pair_of pool n) p e in
-      there (constants.NameAndType p.0 p.1) n (ap (option_and_then (constant_in pool)) (pair_entry (entry_of pool n) t.0 t.1) ∙ ap (option_map (λ q. constants.NameAndType q.0 q.1)) t.2)
+      let is = pair_entry (entry_of pool n) t.0 t.1 in
+      there n (constants.NameAndType p.0 p.1) (rw is low) (ap (option_and_then (constant_in pool)) is ∙ ap (option_map (λ q. constants.NameAndType q.0 q.1)) t.2)
 
-  member_there : (make : ℕ → ℕ → Key) (c p : ℕ) (m : MemberReference) → member pool c p ≡ Some m → (k : Key) × (member_key number make m ≡ Some k)
-  member_there make c p m e =
+  member_there : (make : ℕ → ℕ → Key) (c p : ℕ) (m : MemberReference) → 1 < level → member pool c p ≡ Some m → member_key number make m ≡ Some (make (first c) (first p))
+  member_there make c p m low e =
       let t = member_some (class_name pool c) (named_pair pool p) m e in
-      let a = class_there c m.owner t.0 in
-      let b = pair_there p (m.name, m.descriptor) t.1 in
-      (make a.0 b.0, ap (λ (o : Option ℕ). two make o (pair_number number m.name m.descriptor)) a.1 ∙ ap (two make (Some a.0)) b.1)
+      ap (λ (o : Option ℕ). two make o (pair_number number m.name m.descriptor)) (class_there c m.owner low t.0) ∙ ap (two make (Some (first c))) (pair_there p (m.name, m.descriptor) low t.1)
 
   -- what a handle names has a number
-  handled_there : (kind n : ℕ) (o : Option PoolEntry) (c : Const) → entry_of pool n ≡ o → KindFits pool kind o → handle pool kind o ≡ Some c → (k : Key) × (find_key number c ≡ Some k)
-  handled_there kind n None c is fits e = absurd cc
-  handled_there kind r' (Some (entries.Utf8 x)) c is fits e = absurd cc
-  handled_there kind r' (Some (entries.Integer v)) c is fits e = absurd cc
-  handled_there kind r' (Some (entries.Float b)) c is fits e = absurd cc
-  handled_there kind r' (Some (entries.Long v)) c is fits e = absurd cc
-  handled_there kind r' (Some (entries.Double b)) c is fits e = absurd cc
-  handled_there kind r' (Some (entries.Class n)) c is fits e = absurd cc
-  handled_there kind r' (Some (entries.String n)) c is fits e = absurd cc
-  handled_there kind r' (Some (entries.Field m n)) c is fits e =
+  handled_there : (kind n : ℕ) (o : Option PoolEntry) (c : Const) → 2 < level → entry_of pool n ≡ o → KindFits pool kind o → handle pool kind o ≡ Some c → find_key number c ≡ Some (keys.MethodHandle kind (first n))
+  handled_there kind n None c low is fits e = absurd cc
+  handled_there kind r' (Some (entries.Utf8 x)) c low is fits e = absurd cc
+  handled_there kind r' (Some (entries.Integer v)) c low is fits e = absurd cc
+  handled_there kind r' (Some (entries.Float b)) c low is fits e = absurd cc
+  handled_there kind r' (Some (entries.Long v)) c low is fits e = absurd cc
+  handled_there kind r' (Some (entries.Double b)) c low is fits e = absurd cc
+  handled_there kind r' (Some (entries.Class n)) c low is fits e = absurd cc
+  handled_there kind r' (Some (entries.String n)) c low is fits e = absurd cc
+  handled_there kind r' (Some (entries.Field m n)) c low is fits e =
       let r = map_some (λ x. constants.MethodHandle kind x false) (member pool m n) c e in
-      let f = there (constants.Field r.0) r' (ap (option_and_then (constant_in pool)) is ∙ ap (option_map (λ x. constants.Field x)) r.1) in
+      let f = there r' (constants.Field r.0) (rw is low) (ap (option_and_then (constant_in pool)) is ∙ ap (option_map (λ x. constants.Field x)) r.1) in
       let bound = fits in
       let test : nat_le kind 4 ≡ true = grind (arith, nat_tests, bound) in
-      let key : option_and_then number (handled_key number kind r.0 false) ≡ Some f.0 = ap (λ (b : Bool). option_and_then number (cond b (member_key number (λ x y. keys.Field x y) r.0) (method_key number false r.0))) test ∙ f.1 in
-      (keys.MethodHandle kind f.0, ap (find_key number) (sym r.2) ∙ ap (option_map (λ x. keys.MethodHandle kind x)) key)
-  handled_there kind r' (Some (entries.Method m n)) c is fits e =
+      let key : option_and_then number (handled_key number kind r.0 false) ≡ Some (first r') = ap (λ (b : Bool). option_and_then number (cond b (member_key number (λ x y. keys.Field x y) r.0) (method_key number false r.0))) test ∙ f in
+      ap (find_key number) (sym r.2) ∙ ap (option_map (λ x. keys.MethodHandle kind x)) key
+  handled_there kind r' (Some (entries.Method m n)) c low is fits e =
       let r = map_some (λ x. constants.MethodHandle kind x false) (member pool m n) c e in
-      let f = there (constants.Method r.0 false) r' (ap (option_and_then (constant_in pool)) is ∙ ap (option_map (λ x. constants.Method x false)) r.1) in
+      let f = there r' (constants.Method r.0 false) (rw is low) (ap (option_and_then (constant_in pool)) is ∙ ap (option_map (λ x. constants.Method x false)) r.1) in
       let bound = fits.0 in
       let test : nat_le kind 4 ≡ false = grind (arith, nat_tests, bound) in
-      let key : option_and_then number (handled_key number kind r.0 false) ≡ Some f.0 = ap (λ (b : Bool). option_and_then number (cond b (member_key number (λ x y. keys.Field x y) r.0) (method_key number false r.0))) test ∙ f.1 in
-      (keys.MethodHandle kind f.0, ap (find_key number) (sym r.2) ∙ ap (option_map (λ x. keys.MethodHandle kind x)) key)
-  handled_there kind r' (Some (entries.InterfaceMethod m n)) c is fits e =
+      let key : option_and_then number (handled_key number kind r.0 false) ≡ Some (first r') = ap (λ (b : Bool). option_and_then number (cond b (member_key number (λ x y. keys.Field x y) r.0) (method_key number false r.0))) test ∙ f in
+      ap (find_key number) (sym r.2) ∙ ap (option_map (λ x. keys.MethodHandle kind x)) key
+  handled_there kind r' (Some (entries.InterfaceMethod m n)) c low is fits e =
       let r = map_some (λ x. constants.MethodHandle kind x true) (member pool m n) c e in
-      let f = there (constants.Method r.0 true) r' (ap (option_and_then (constant_in pool)) is ∙ ap (option_map (λ x. constants.Method x true)) r.1) in
+      let f = there r' (constants.Method r.0 true) (rw is low) (ap (option_and_then (constant_in pool)) is ∙ ap (option_map (λ x. constants.Method x true)) r.1) in
       let bound = fits.0 in
       let test : nat_le kind 4 ≡ false = grind (arith, nat_tests, bound) in
-      let key : option_and_then number (handled_key number kind r.0 true) ≡ Some f.0 = ap (λ (b : Bool). option_and_then number (cond b None (method_key number true r.0))) test ∙ f.1 in
-      (keys.MethodHandle kind f.0, ap (find_key number) (sym r.2) ∙ ap (option_map (λ x. keys.MethodHandle kind x)) key)
-  handled_there kind r' (Some (entries.NameAndType m n)) c is fits e = absurd cc
-  handled_there kind r' (Some (entries.MethodHandle m n)) c is fits e = absurd cc
-  handled_there kind r' (Some (entries.MethodType n)) c is fits e = absurd cc
-  handled_there kind r' (Some (entries.InvokeDynamic m n)) c is fits e = absurd cc
-  handled_there kind r' (Some entries.Unusable) c is fits e = absurd cc
+      let key : option_and_then number (handled_key number kind r.0 true) ≡ Some (first r') = ap (λ (b : Bool). option_and_then number (cond b None (method_key number true r.0))) test ∙ f in
+      ap (find_key number) (sym r.2) ∙ ap (option_map (λ x. keys.MethodHandle kind x)) key
+  handled_there kind r' (Some (entries.NameAndType m n)) c low is fits e = absurd cc
+  handled_there kind r' (Some (entries.MethodHandle m n)) c low is fits e = absurd cc
+  handled_there kind r' (Some (entries.MethodType n)) c low is fits e = absurd cc
+  handled_there kind r' (Some (entries.InvokeDynamic m n)) c low is fits e = absurd cc
+  handled_there kind r' (Some entries.Unusable) c low is fits e = absurd cc
 
-  -- the parts of a sound entry's constant have numbers
-  pub key_there : (sound : AllByRecursion (IsSound pool) pool) (e : PoolEntry) (c : Const) → IsSound pool e → constant_in pool e ≡ Some c → (k : Key) × (find_key number c ≡ Some k)
-  key_there sound (entries.Utf8 x) c h is = (keys.Utf8 x, ap (find_key number) (sym (some_is (constants.Utf8 x) c is)))
-  key_there sound (entries.Integer v) c h is = (keys.Integer v, ap (find_key number) (sym (some_is (constants.Integer v) c is)))
-  key_there sound (entries.Float b) c h is = (keys.Float b, ap (find_key number) (sym (some_is (constants.Float b) c is)))
-  key_there sound (entries.Long v) c h is = (keys.Long v, ap (find_key number) (sym (some_is (constants.Long v) c is)))
-  key_there sound (entries.Double b) c h is = (keys.Double b, ap (find_key number) (sym (some_is (constants.Double b) c is)))
-  key_there sound (entries.Class n) c h is = let t = map_some (λ x. constants.Class x) (text_of pool n) c is in let m = text_there n t.0 t.1 in (keys.Class m.0, ap (find_key number) (sym t.2) ∙ ap (option_map (λ x. keys.Class x)) m.1)
-  key_there sound (entries.String n) c h is = let t = map_some (λ x. constants.String x) (text_of pool n) c is in let m = text_there n t.0 t.1 in (keys.String m.0, ap (find_key number) (sym t.2) ∙ ap (option_map (λ x. keys.String x)) m.1)
-  key_there sound (entries.Field m n) c h is = let t = map_some (λ x. constants.Field x) (member pool m n) c is in let k = member_there (λ a b. keys.Field a b) m n t.0 t.1 in (k.0, ap (find_key number) (sym t.2) ∙ k.1)
-  key_there sound (entries.Method m n) c h is = let t = map_some (λ x. constants.Method x false) (member pool m n) c is in let k = member_there (λ a b. keys.Method a b) m n t.0 t.1 in (k.0, ap (find_key number) (sym t.2) ∙ k.1)
-  key_there sound (entries.InterfaceMethod m n) c h is = let t = map_some (λ x. constants.Method x true) (member pool m n) c is in let k = member_there (λ a b. keys.InterfaceMethod a b) m n t.0 t.1 in (k.0, ap (find_key number) (sym t.2) ∙ k.1)
-  key_there sound (entries.NameAndType m n) c h is =
+  -- the key of a sound entry's constant is the entry's
+  pub key_there : (e : PoolEntry) (c : Const) → level_in e ≤ level → IsSound pool e → constant_in pool e ≡ Some c → find_key number c ≡ key_with first e
+  key_there (entries.Utf8 x) c low h is = ap (find_key number) (sym (some_is (constants.Utf8 x) c is))
+  key_there (entries.Integer v) c low h is = ap (find_key number) (sym (some_is (constants.Integer v) c is))
+  key_there (entries.Float b) c low h is = ap (find_key number) (sym (some_is (constants.Float b) c is))
+  key_there (entries.Long v) c low h is = ap (find_key number) (sym (some_is (constants.Long v) c is))
+  key_there (entries.Double b) c low h is = ap (find_key number) (sym (some_is (constants.Double b) c is))
+  key_there (entries.Class n) c low h is = let t = map_some (λ x. constants.Class x) (text_of pool n) c is in ap (find_key number) (sym t.2) ∙ ap (option_map (λ x. keys.Class x)) (text_there n t.0 (omega arith) t.1)
+  key_there (entries.String n) c low h is = let t = map_some (λ x. constants.String x) (text_of pool n) c is in ap (find_key number) (sym t.2) ∙ ap (option_map (λ x. keys.String x)) (text_there n t.0 (omega arith) t.1)
+  key_there (entries.Field m n) c low h is = let t = map_some (λ x. constants.Field x) (member pool m n) c is in ap (find_key number) (sym t.2) ∙ member_there (λ a b. keys.Field a b) m n t.0 (omega arith) t.1
+  key_there (entries.Method m n) c low h is = let t = map_some (λ x. constants.Method x false) (member pool m n) c is in ap (find_key number) (sym t.2) ∙ member_there (λ a b. keys.Method a b) m n t.0 (omega arith) t.1
+  key_there (entries.InterfaceMethod m n) c low h is = let t = map_some (λ x. constants.Method x true) (member pool m n) c is in ap (find_key number) (sym t.2) ∙ member_there (λ a b. keys.InterfaceMethod a b) m n t.0 (omega arith) t.1
+  key_there (entries.NameAndType m n) c low h is =
       let t = map_some (λ p. constants.NameAndType p.0 p.1) (both (text_of pool m) (text_of pool n)) c is in
       let b = both_some (text_of pool m) (text_of pool n) t.0 t.1 in
-      let x = text_there m t.0.0 b.0 in
-      let y = text_there n t.0.1 b.1 in
-      (keys.NameAndType x.0 y.0, ap (find_key number) (sym t.2) ∙ ap (λ (o : Option ℕ). two (λ a b. keys.NameAndType a b) o (text_number number t.0.1)) x.1 ∙ ap (two (λ a b. keys.NameAndType a b) (Some x.0)) y.1)
-  key_there sound (entries.MethodHandle m n) c h is = handled_there m n (entry_of pool n) c refl h.0.2 is
-  key_there sound (entries.MethodType n) c h is = let t = map_some (λ x. constants.MethodType x) (text_of pool n) c is in let m = text_there n t.0 t.1 in (keys.MethodType m.0, ap (find_key number) (sym t.2) ∙ ap (option_map (λ x. keys.MethodType x)) m.1)
-  key_there sound (entries.InvokeDynamic m n) c h is = let t = map_some (λ p. constants.InvokeDynamic m p.0 p.1) (named_pair pool n) c is in let k = pair_there n t.0 t.1 in (keys.InvokeDynamic m k.0, ap (find_key number) (sym t.2) ∙ ap (option_map (λ x. keys.InvokeDynamic m x)) k.1)
-  key_there sound entries.Unusable c h is = absurd cc
+      ap (find_key number) (sym t.2) ∙ ap (λ (o : Option ℕ). two (λ a b. keys.NameAndType a b) o (text_number number t.0.1)) (text_there m t.0.0 (omega arith) b.0) ∙ ap (two (λ a b. keys.NameAndType a b) (Some (first m))) (text_there n t.0.1 (omega arith) b.1)
+  key_there (entries.MethodHandle m n) c low h is = handled_there m n (entry_of pool n) c (omega arith) refl h.0.2 is
+  key_there (entries.MethodType n) c low h is = let t = map_some (λ x. constants.MethodType x) (text_of pool n) c is in ap (find_key number) (sym t.2) ∙ ap (option_map (λ x. keys.MethodType x)) (text_there n t.0 (omega arith) t.1)
+  key_there (entries.InvokeDynamic m n) c low h is = let t = map_some (λ p. constants.InvokeDynamic m p.0 p.1) (named_pair pool n) c is in ap (find_key number) (sym t.2) ∙ ap (option_map (λ x. keys.InvokeDynamic m x)) (pair_there n t.0 (omega arith) t.1)
+  key_there entries.Unusable c low h is = absurd cc
+
+-- the number that an index has of what a number names
+number_of : List PoolEntry → (Key → Option ℕ) → ℕ → ℕ
+number_of pool number n = unwrap_or (option_and_then (number_for number) (constant_of pool n)) 0
+
+number_there : (pool : List PoolEntry) (number : Key → Option ℕ) → Enters pool (IsIn pool) number → (n : ℕ) (c : Const) → constant_of pool n ≡ Some c → number_for number c ≡ Some (number_of pool number n)
+unfolding number_of
+number_there pool number right n c e =
+    let s = some_and (number_for number c) (λ first. first ≤ n) (right.least c n (number_in pool n c e) e) in
+    s.1 ∙ ap (λ (o : Option ℕ). Some (unwrap_or o 0)) (sym (ap (option_and_then (number_for number)) e ∙ s.1))
+
+pub key_some : (first : ℕ → ℕ) (e : PoolEntry) → (e ≡ entries.Unusable → ⊥) → (k : Key) × (key_with first e ≡ Some k)
+key_some first (entries.Utf8 x) u = (keys.Utf8 x, refl)
+key_some first (entries.Integer v) u = (keys.Integer v, refl)
+key_some first (entries.Float b) u = (keys.Float b, refl)
+key_some first (entries.Long v) u = (keys.Long v, refl)
+key_some first (entries.Double b) u = (keys.Double b, refl)
+key_some first (entries.Class n) u = (keys.Class (first n), refl)
+key_some first (entries.String n) u = (keys.String (first n), refl)
+key_some first (entries.Field m n) u = (keys.Field (first m) (first n), refl)
+key_some first (entries.Method m n) u = (keys.Method (first m) (first n), refl)
+key_some first (entries.InterfaceMethod m n) u = (keys.InterfaceMethod (first m) (first n), refl)
+key_some first (entries.NameAndType m n) u = (keys.NameAndType (first m) (first n), refl)
+key_some first (entries.MethodHandle m n) u = (keys.MethodHandle m (first n), refl)
+key_some first (entries.MethodType n) u = (keys.MethodType (first n), refl)
+key_some first (entries.InvokeDynamic m n) u = (keys.InvokeDynamic m (first n), refl)
+key_some first entries.Unusable u = absurd (u refl)
+
+pub low_level : (e : PoolEntry) → (e ≡ entries.Unusable → ⊥) → level_in e ≤ 3
+low_level (entries.Utf8 x) u = lit≤ tt
+low_level (entries.Integer v) u = lit≤ tt
+low_level (entries.Float b) u = lit≤ tt
+low_level (entries.Long v) u = lit≤ tt
+low_level (entries.Double b) u = lit≤ tt
+low_level (entries.Class n) u = lit≤ tt
+low_level (entries.String n) u = lit≤ tt
+low_level (entries.Field m n) u = lit≤ tt
+low_level (entries.Method m n) u = lit≤ tt
+low_level (entries.InterfaceMethod m n) u = lit≤ tt
+low_level (entries.NameAndType m n) u = lit≤ tt
+low_level (entries.MethodHandle m n) u = lit≤ tt
+low_level (entries.MethodType n) u = lit≤ tt
+low_level (entries.InvokeDynamic m n) u = lit≤ tt
+low_level entries.Unusable u = absurd (u refl)
+
+pub usable : (pool : List PoolEntry) (e : PoolEntry) (c : Const) → constant_in pool e ≡ Some c → e ≡ entries.Unusable → ⊥
+usable pool e c is u = let never : None ≡ Some c = sym (ap (constant_in pool) u) ∙ is in absurd cc
+
+-- the parts of a sound entry's constant have numbers
+pub key_found : (pool : List PoolEntry) (number : Key → Option ℕ) (e : PoolEntry) (c : Const) → Enters pool (IsIn pool) number → IsSound pool e → constant_in pool e ≡ Some c → (k : Key) × (find_key number c ≡ Some k)
+key_found pool number e c right sound is =
+    let k = key_some (number_of pool number) e (usable pool e c is) in
+    (k.0, key_there pool number (number_of pool number) 4 (λ n d low h. number_there pool number right n d h) e c (omega (arith, low_level e (usable pool e c is))) sound is ∙ k.1)
 
 -- what an index says of a constant
 pub found_least : (pool : List PoolEntry) (number : Key → Option ℕ) (c : Const) (n : ℕ) → Enters pool (IsIn pool) number → number_for number c ≡ Some n → IsLeast pool c n

@@ -1,5 +1,5 @@
 -- The number that an index has for a key.
-use Rattle.std.specs.Prelude.{◌≡◌, ℕ, List, Option, Some, ◌⊎◌}
+use Rattle.std.specs.Prelude.{◌≡◌, ℕ, List, Option, Some, None, ◌⊎◌}
 use Rattle.std.specs.Ordering.{nat_cmp}
 use Rattle.std.specs.declared.cmp.Ordering.{Ordering}
 use Rattle.std.specs.Cmp.Lexicographic.{slice_cmp}
@@ -20,3 +20,7 @@ number_in index key = get list_cmp index.others (words_of key)
 pub record Inserts (old new : Key → Option ℕ) (key : Key) (number : ℕ) : Type 0 where
   pub here : new key ≡ Some number
   pub others : (other : Key) → (other ≡ key) ⊎ (new other ≡ old other)
+
+-- the number that the key had, or the new one where it had none
+abbrev pub HasOrInserts : (old new : Key → Option ℕ) → Key → (number given : ℕ) → Type 0
+HasOrInserts old new key number given = ((old key ≡ Some given) × ((other : Key) → new other ≡ old other)) ⊎ ((old key ≡ None) × (given ≡ number) × Inserts old new key number)

@@ -9,3 +9,4 @@ pub mod Keys
 pub mod Index
 pub mod Numbers
 pub mod Adding
+pub mod Building

@@ -16,7 +16,7 @@ pub(crate) struct Index {
 impl Index {
     ghost use Rattle.wv_pool.specs.declared.key.Key.{Key};
     ghost use Rattle.wv_pool.specs.declared.key.Key.TheVariants as keys;
-    ghost use Rattle.wv_pool.specs.Index.{number_in, Inserts};
+    ghost use Rattle.wv_pool.specs.Index.{number_in, Inserts, HasOrInserts};
     ghost use Rattle.wv_pool.specs.Numbers.{text_number, class_number, pair_number, member_key, method_key, handled_key, other_key, find_key, number_for};
 
     pub(crate) fn new(alloc: Global) -> Index
@@ -158,5 +158,16 @@ impl Index {
             }
         }
         Ok(())
+    }
+
+    /// The number of the key, which is this one from now on where it had none.
+    pub(crate) fn number_or_insert(&mut self, key: Key, number: u16) -> Result<u16, Memory>
+        ensures { IfOk result (λ given. HasOrInserts (number_in self.old) (number_in self.new) key number given) }
+    {
+        if let Some(given) = self.number(&key) {
+            return Ok(given);
+        }
+        self.insert(key, number)?;
+        Ok(number)
     }
 }

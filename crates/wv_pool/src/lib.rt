@@ -2,6 +2,7 @@
 #![tactic(auto)]
 
 mod add;
+mod building;
 mod entry;
 mod fact_table;
 mod facts;
@@ -10,6 +11,7 @@ mod key;
 mod layout;
 mod length;
 mod pool;
+mod reading;
 mod reference;
 mod soundness;
 mod stop;
@@ -17,5 +19,8 @@ mod writing;
 
 pub use add::PoolFault;
 pub use pool::Pool;
+pub use reading::{read_layout, read_pool};
 pub use soundness::first_break;
 
+#[cfg(test)]
+mod tests;

@@ -8,6 +8,7 @@ ghost use Rattle.wv_pool.specs.References.{entry_of, text_of, IsSound, IsPool};
 ghost use Rattle.wv_pool.specs.Constants.{class_name, named_pair, constant_in, constant_of};
 
 use crate::add::PoolFault;
+use crate::building::index_of;
 use crate::entry::is_wide;
 use crate::index::Index;
 use crate::reference::entry_of;
@@ -61,6 +62,16 @@ fn push_slots(entries: &mut Vec<PoolEntry>, entry: PoolEntry)
 }
 
 impl Pool {
+    /// The pool of these entries, in which each number names what its place needs, as `read_layout` and
+    /// `first_break` show.
+    pub fn from_entries(alloc: Global, entries: Vec<PoolEntry>) -> Result<Pool, Memory>
+        requires { IsPool entries.items }
+        ensures { IfOk result (λ pool. pool ≡ entries.items) }
+    {
+        let index = index_of(alloc, &entries)?;
+        Ok(Pool { entries, index })
+    }
+
     /// The least number that names the constant.
     pub fn number_of(&self, constant: &Const) -> Option<u16>
         ensures found { IfSome result (IsLeast self.now constant.now) }

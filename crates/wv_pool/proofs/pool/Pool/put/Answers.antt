@@ -7,7 +7,7 @@ use Rattle.wv_pool.specs.Constants.{constant_in}
 use Rattle.wv_pool.specs.Numbers.{IsLeast, Named, number_for, find_key}
 use Rattle.wv_pool.specs.Index.{number_in}
 use Rattle.wv_pool.specs.Adding.{slots_of}
-use Rattle.wv_pool.proofs.Putting.{found_least, found_none, key_there, was_put, same_enters}
+use Rattle.wv_pool.proofs.Putting.{found_least, found_none, key_found, was_put, same_enters}
 use Rattle.wv_pool.proofs.pool.Pool.put.Goals as goal
 
 pub returns-in-Some-clause-puts : goal.returns-in-Some-clause-puts
@@ -24,7 +24,7 @@ pub unreachable-requires : goal.unreachable-requires
 unreachable-requires c =
     let sound : IsSound c.self.inside.entries.items c.args.entry = rw c.self.view_is c.requires.sound in
     let named : constant_in c.self.inside.entries.items c.args.entry ≡ Some c.args.constant.now = rw c.self.view_is c.requires.named in
-    let k = key_there c.self.inside.entries.items (number_in c.self.inside.index) c.self.invariant.1 c.self.invariant.0.1 c.args.entry c.args.constant.now sound named in
+    let k = key_found c.self.inside.entries.items (number_in c.self.inside.index) c.args.entry c.args.constant.now c.self.invariant.1 sound named in
     let never : ◌≡◌ {A = Option Key} None (Some k.0) = sym c.in_default-2.is ∙ c.in_ok-key.ensures ∙ k.1 in
     absurd cc
 
