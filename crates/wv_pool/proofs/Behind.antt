@@ -1,5 +1,5 @@
 -- What entry stands behind a constant.
-use Rattle.std.proofs.Common.{◌≡◌, ℕ, ◌+◌, Bool, true, false, cond, List, [], ◌∷◌, Option, Some, None, refl, sym, ap, subst, ◌∙◌, arith}
+use Rattle.std.proofs.Common.{◌≡◌, ℕ, ◌+◌, Bool, true, false, cond, List, [], ◌∷◌, length, Option, Some, None, refl, sym, ap, subst, ◌∙◌, arith}
 use Rattle.std.specs.Prelude.{nat_eq, nat_lt}
 use Rattle.std.specs.Option.{option_map, option_and_then}
 use Rattle.wv_base.specs.declared.class_file.PoolEntry.{PoolEntry}
@@ -8,6 +8,7 @@ use Rattle.wv_base.specs.declared.constant.Const.{Const}
 use Rattle.wv_base.specs.declared.constant.Const.TheVariants as constants
 use Rattle.wv_base.specs.declared.constant.MemberReference.{MemberReference}
 use Rattle.wv_pool.specs.References.{entry_of, text_in, text_of, class_in, class_of, pair_in, pair_of}
+use Rattle.wv_pool.specs.Adding.{slots_of, numbers_of}
 use Rattle.wv_pool.specs.Building.{level_in}
 use Rattle.wv_pool.specs.Constants.{class_name, both, pair_texts, named_pair, member_of, member, handle, constant_in, constant_of}
 
@@ -237,3 +238,45 @@ field_handle pool kind n r e = let t = then_some (constant_in pool) (entry_of po
 
 pub method_handle : (pool : List PoolEntry) (kind n : ℕ) (r : MemberReference) (i : Bool) → constant_of pool n ≡ Some (constants.Method r i) → handle pool kind (entry_of pool n) ≡ Some (constants.MethodHandle kind r i)
 method_handle pool kind n r i e = let t = then_some (constant_in pool) (entry_of pool n) (constants.Method r i) e in ap (handle pool kind) t.1 ∙ method_behind pool t.0 kind r i t.2
+
+-- how many numbers an entry or a constant with a tag takes
+tag_numbers : ℕ → ℕ
+tag_numbers t = cond (nat_eq t 5) 2 (cond (nat_eq t 6) 2 1)
+
+entry_numbers : (e : PoolEntry) → length (slots_of e) ≡ tag_numbers (entry_tag e)
+unfolding tag_numbers entry_tag
+entry_numbers (entries.Utf8 x) = refl
+entry_numbers (entries.Integer v) = refl
+entry_numbers (entries.Float b) = refl
+entry_numbers (entries.Long v) = refl
+entry_numbers (entries.Double b) = refl
+entry_numbers (entries.Class n) = refl
+entry_numbers (entries.String n) = refl
+entry_numbers (entries.Field m n) = refl
+entry_numbers (entries.Method m n) = refl
+entry_numbers (entries.InterfaceMethod m n) = refl
+entry_numbers (entries.NameAndType m n) = refl
+entry_numbers (entries.MethodHandle m n) = refl
+entry_numbers (entries.MethodType n) = refl
+entry_numbers (entries.InvokeDynamic m n) = refl
+entry_numbers entries.Unusable = refl
+
+const_numbers : (c : Const) → numbers_of c ≡ tag_numbers (const_tag c)
+unfolding tag_numbers const_tag
+const_numbers (constants.Utf8 x) = refl
+const_numbers (constants.Integer v) = refl
+const_numbers (constants.Float b) = refl
+const_numbers (constants.Long v) = refl
+const_numbers (constants.Double b) = refl
+const_numbers (constants.Class x) = refl
+const_numbers (constants.String x) = refl
+const_numbers (constants.Field m) = refl
+const_numbers (constants.Method m false) = refl
+const_numbers (constants.Method m true) = refl
+const_numbers (constants.NameAndType x y) = refl
+const_numbers (constants.MethodHandle kind m i) = refl
+const_numbers (constants.MethodType x) = refl
+const_numbers (constants.InvokeDynamic b x y) = refl
+
+pub slots_numbers : (pool : List PoolEntry) (e : PoolEntry) (c : Const) → constant_in pool e ≡ Some c → length (slots_of e) ≡ numbers_of c
+slots_numbers pool e c is = entry_numbers e ∙ ap tag_numbers (tag_is pool e c is) ∙ sym (const_numbers c)

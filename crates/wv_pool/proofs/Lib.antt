@@ -14,3 +14,5 @@ pub mod Growing
 pub mod SoundPools
 pub mod Putting
 pub mod Entering
+pub mod Lacking
+pub mod Parts

@@ -53,16 +53,16 @@ text_entry (Some (entries.MethodType n)) x e = absurd cc
 text_entry (Some (entries.InvokeDynamic m n)) x e = absurd cc
 text_entry (Some entries.Unusable) x e = absurd cc
 
-both_some : (a b : Option (List ℕ)) (p : List ℕ × List ℕ) → both a b ≡ Some p → (a ≡ Some p.0) × (b ≡ Some p.1)
+pub both_some : (a b : Option (List ℕ)) (p : List ℕ × List ℕ) → both a b ≡ Some p → (a ≡ Some p.0) × (b ≡ Some p.1)
 both_some (Some a) (Some b) p e = let same : (a, b) ≡ p = some_is (a, b) p e in (ap (λ (q : List ℕ × List ℕ). Some q.0) same, ap (λ (q : List ℕ × List ℕ). Some q.1) same)
 both_some (Some a) None p e = absurd cc
 both_some None b p e = absurd cc
 
-texts_some : (pool : List PoolEntry) (o : Option (ℕ × ℕ)) (p : List ℕ × List ℕ) → pair_texts pool o ≡ Some p → (q : ℕ × ℕ) × (o ≡ Some q) × (both (text_of pool q.0) (text_of pool q.1) ≡ Some p)
+pub texts_some : (pool : List PoolEntry) (o : Option (ℕ × ℕ)) (p : List ℕ × List ℕ) → pair_texts pool o ≡ Some p → (q : ℕ × ℕ) × (o ≡ Some q) × (both (text_of pool q.0) (text_of pool q.1) ≡ Some p)
 texts_some pool None p e = absurd cc
 texts_some pool (Some q) p e = (q, refl, e)
 
-member_some : (a : Option (List ℕ)) (b : Option (List ℕ × List ℕ)) (m : MemberReference) → member_of a b ≡ Some m → (a ≡ Some m.owner) × (b ≡ Some (m.name, m.descriptor))
+pub member_some : (a : Option (List ℕ)) (b : Option (List ℕ × List ℕ)) (m : MemberReference) → member_of a b ≡ Some m → (a ≡ Some m.owner) × (b ≡ Some (m.name, m.descriptor))
 member_some (Some x) (Some p) m e = let made : MemberReference = record { owner = x; name = p.0; descriptor = p.1 } in let same : made ≡ m = some_is made m e in
     (ap (λ (r : MemberReference). Some r.owner) same, ap (λ (r : MemberReference). Some (r.name, r.descriptor)) same)
 member_some (Some x) None m e = absurd cc
@@ -255,7 +255,7 @@ slots_named pool e i c is = go (is_wide e) i is
     go true (suc (suc i)) is = absurd cc
     go false (suc i) is = absurd cc
 
-new_number : (pool : List PoolEntry) (e : PoolEntry) (m : ℕ) (c : Const) → constant_of (pool ++ slots_of e) m ≡ Some c → (m ≤ length pool) ⊎ (m ≡ length pool + 1)
+pub new_number : (pool : List PoolEntry) (e : PoolEntry) (m : ℕ) (c : Const) → constant_of (pool ++ slots_of e) m ≡ Some c → (m ≤ length pool) ⊎ (m ≡ length pool + 1)
 new_number pool e zero c is = absurd cc
 new_number pool e (suc place) c is = elim (cases_lt place (length pool)) [
   | inl old ↦ inl old

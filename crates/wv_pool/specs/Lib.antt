@@ -10,3 +10,4 @@ pub mod Index
 pub mod Numbers
 pub mod Adding
 pub mod Building
+pub mod Allowed

@@ -1,6 +1,6 @@
 //! A constant pool.
-ghost use Rattle.std.specs.Prelude.{◌≡◌, ◌≤◌, ◌+◌, ◌++◌, ◌↔◌, List, ℕ, length, take, IfOk, IfErr, IfSome, IfNone, Some, vec_len, vec_capacity};
-ghost use Rattle.wv_pool.specs.Adding.{slots_of, Puts};
+ghost use Rattle.std.specs.Prelude.{◌≡◌, ◌≤◌, ◌+◌, ◌++◌, ◌∷◌, [], ◌↔◌, List, ℕ, length, take, IfOk, IfErr, IfSome, IfNone, Some, vec_len, vec_capacity};
+ghost use Rattle.wv_pool.specs.Adding.{slots_of, Adds};
 ghost use Rattle.wv_pool.specs.Numbers.{IsLeast, Named};
 ghost use Rattle.std.specs.Option.{option_copied, option_map};
 ghost use Rattle.wv_pool.specs.Entries.{pool_bytes, IsEntry};
@@ -86,8 +86,7 @@ impl Pool {
         requires laid_out { IsEntry entry }
         requires sound { IsSound self.old entry }
         requires named { constant_in self.old entry ≡ Some constant.now }
-        ensures puts { Puts self.old self.new constant.now entry result }
-        ensures sound { IsPool self.new }
+        ensures { Adds self.old self.new (constant.now ∷ []) constant.now result }
     {
         if let Some(number) = self.index.number_of(constant) {
             return Ok(number);
