@@ -280,3 +280,57 @@ const_numbers (constants.InvokeDynamic b x y) = refl
 
 pub slots_numbers : (pool : List PoolEntry) (e : PoolEntry) (c : Const) → constant_in pool e ≡ Some c → length (slots_of e) ≡ numbers_of c
 slots_numbers pool e c is = entry_numbers e ∙ ap tag_numbers (tag_is pool e c is) ∙ sym (const_numbers c)
+
+pub field_entry : (pool : List PoolEntry) (e : PoolEntry) (r : MemberReference) → constant_in pool e ≡ Some (constants.Field r) → (a : ℕ) × (b : ℕ) × (e ≡ entries.Field a b) × (member pool a b ≡ Some r)
+unfolding const_tag entry_tag
+field_entry pool (entries.Utf8 x) r e = let t = tag_is pool (entries.Utf8 x) (constants.Field r) e in absurd (omega (arith, t))
+field_entry pool (entries.Integer v) r e = let t = tag_is pool (entries.Integer v) (constants.Field r) e in absurd (omega (arith, t))
+field_entry pool (entries.Float b) r e = let t = tag_is pool (entries.Float b) (constants.Field r) e in absurd (omega (arith, t))
+field_entry pool (entries.Long v) r e = let t = tag_is pool (entries.Long v) (constants.Field r) e in absurd (omega (arith, t))
+field_entry pool (entries.Double b) r e = let t = tag_is pool (entries.Double b) (constants.Field r) e in absurd (omega (arith, t))
+field_entry pool (entries.Class n) r e = let t = tag_is pool (entries.Class n) (constants.Field r) e in absurd (omega (arith, t))
+field_entry pool (entries.String n) r e = let t = tag_is pool (entries.String n) (constants.Field r) e in absurd (omega (arith, t))
+field_entry pool (entries.Field m n) r e = let t = map_some (λ x. constants.Field x) (member pool m n) (constants.Field r) e in let same : t.0 ≡ r = cc (t.2) in (m, n, refl, t.1 ∙ ap (λ (x : MemberReference). Some x) same)
+field_entry pool (entries.Method m n) r e = let t = tag_is pool (entries.Method m n) (constants.Field r) e in absurd (omega (arith, t))
+field_entry pool (entries.InterfaceMethod m n) r e = let t = tag_is pool (entries.InterfaceMethod m n) (constants.Field r) e in absurd (omega (arith, t))
+field_entry pool (entries.NameAndType m n) r e = let t = tag_is pool (entries.NameAndType m n) (constants.Field r) e in absurd (omega (arith, t))
+field_entry pool (entries.MethodHandle m n) r e = let t = tag_is pool (entries.MethodHandle m n) (constants.Field r) e in absurd (omega (arith, t))
+field_entry pool (entries.MethodType n) r e = let t = tag_is pool (entries.MethodType n) (constants.Field r) e in absurd (omega (arith, t))
+field_entry pool (entries.InvokeDynamic m n) r e = let t = tag_is pool (entries.InvokeDynamic m n) (constants.Field r) e in absurd (omega (arith, t))
+field_entry pool entries.Unusable r e = absurd cc
+
+pub method_entry : (pool : List PoolEntry) (e : PoolEntry) (r : MemberReference) → constant_in pool e ≡ Some (constants.Method r false) → (a : ℕ) × (b : ℕ) × (e ≡ entries.Method a b) × (member pool a b ≡ Some r)
+unfolding const_tag entry_tag
+method_entry pool (entries.Utf8 x) r e = let t = tag_is pool (entries.Utf8 x) (constants.Method r false) e in absurd (omega (arith, t))
+method_entry pool (entries.Integer v) r e = let t = tag_is pool (entries.Integer v) (constants.Method r false) e in absurd (omega (arith, t))
+method_entry pool (entries.Float b) r e = let t = tag_is pool (entries.Float b) (constants.Method r false) e in absurd (omega (arith, t))
+method_entry pool (entries.Long v) r e = let t = tag_is pool (entries.Long v) (constants.Method r false) e in absurd (omega (arith, t))
+method_entry pool (entries.Double b) r e = let t = tag_is pool (entries.Double b) (constants.Method r false) e in absurd (omega (arith, t))
+method_entry pool (entries.Class n) r e = let t = tag_is pool (entries.Class n) (constants.Method r false) e in absurd (omega (arith, t))
+method_entry pool (entries.String n) r e = let t = tag_is pool (entries.String n) (constants.Method r false) e in absurd (omega (arith, t))
+method_entry pool (entries.Field m n) r e = let t = tag_is pool (entries.Field m n) (constants.Method r false) e in absurd (omega (arith, t))
+method_entry pool (entries.Method m n) r e = let t = map_some (λ x. constants.Method x false) (member pool m n) (constants.Method r false) e in let same : t.0 ≡ r = cc (t.2) in (m, n, refl, t.1 ∙ ap (λ (x : MemberReference). Some x) same)
+method_entry pool (entries.InterfaceMethod m n) r e = let t = tag_is pool (entries.InterfaceMethod m n) (constants.Method r false) e in absurd (omega (arith, t))
+method_entry pool (entries.NameAndType m n) r e = let t = tag_is pool (entries.NameAndType m n) (constants.Method r false) e in absurd (omega (arith, t))
+method_entry pool (entries.MethodHandle m n) r e = let t = tag_is pool (entries.MethodHandle m n) (constants.Method r false) e in absurd (omega (arith, t))
+method_entry pool (entries.MethodType n) r e = let t = tag_is pool (entries.MethodType n) (constants.Method r false) e in absurd (omega (arith, t))
+method_entry pool (entries.InvokeDynamic m n) r e = let t = tag_is pool (entries.InvokeDynamic m n) (constants.Method r false) e in absurd (omega (arith, t))
+method_entry pool entries.Unusable r e = absurd cc
+
+pub interface_entry : (pool : List PoolEntry) (e : PoolEntry) (r : MemberReference) → constant_in pool e ≡ Some (constants.Method r true) → (a : ℕ) × (b : ℕ) × (e ≡ entries.InterfaceMethod a b) × (member pool a b ≡ Some r)
+unfolding const_tag entry_tag
+interface_entry pool (entries.Utf8 x) r e = let t = tag_is pool (entries.Utf8 x) (constants.Method r true) e in absurd (omega (arith, t))
+interface_entry pool (entries.Integer v) r e = let t = tag_is pool (entries.Integer v) (constants.Method r true) e in absurd (omega (arith, t))
+interface_entry pool (entries.Float b) r e = let t = tag_is pool (entries.Float b) (constants.Method r true) e in absurd (omega (arith, t))
+interface_entry pool (entries.Long v) r e = let t = tag_is pool (entries.Long v) (constants.Method r true) e in absurd (omega (arith, t))
+interface_entry pool (entries.Double b) r e = let t = tag_is pool (entries.Double b) (constants.Method r true) e in absurd (omega (arith, t))
+interface_entry pool (entries.Class n) r e = let t = tag_is pool (entries.Class n) (constants.Method r true) e in absurd (omega (arith, t))
+interface_entry pool (entries.String n) r e = let t = tag_is pool (entries.String n) (constants.Method r true) e in absurd (omega (arith, t))
+interface_entry pool (entries.Field m n) r e = let t = tag_is pool (entries.Field m n) (constants.Method r true) e in absurd (omega (arith, t))
+interface_entry pool (entries.Method m n) r e = let t = tag_is pool (entries.Method m n) (constants.Method r true) e in absurd (omega (arith, t))
+interface_entry pool (entries.InterfaceMethod m n) r e = let t = map_some (λ x. constants.Method x true) (member pool m n) (constants.Method r true) e in let same : t.0 ≡ r = cc (t.2) in (m, n, refl, t.1 ∙ ap (λ (x : MemberReference). Some x) same)
+interface_entry pool (entries.NameAndType m n) r e = let t = tag_is pool (entries.NameAndType m n) (constants.Method r true) e in absurd (omega (arith, t))
+interface_entry pool (entries.MethodHandle m n) r e = let t = tag_is pool (entries.MethodHandle m n) (constants.Method r true) e in absurd (omega (arith, t))
+interface_entry pool (entries.MethodType n) r e = let t = tag_is pool (entries.MethodType n) (constants.Method r true) e in absurd (omega (arith, t))
+interface_entry pool (entries.InvokeDynamic m n) r e = let t = tag_is pool (entries.InvokeDynamic m n) (constants.Method r true) e in absurd (omega (arith, t))
+interface_entry pool entries.Unusable r e = absurd cc

@@ -1,6 +1,6 @@
 -- What a pool lacks of the constants that are added, one after the other.
 use Rattle.std.proofs.Common.{◌≡◌, ℕ, ◌+◌, ◌≤◌, ◌<◌, List, [], ◌∷◌, ◌++◌, length, Option, Some, None, Result, Ok, Err, refl, sym, ap, subst, ◌∙◌, ◌⊎◌, inl, inr, arith}
-use Rattle.std.specs.Prelude.{IsErrAnd}
+use Rattle.std.specs.Prelude.{IsErrAnd, IfOk, IfErr}
 use Rattle.std.specs.List.{AllByRecursion}
 use Rattle.std.proofs.lemmas.List.{length-append, append_assoc, append-nil}
 use Rattle.wv_base.specs.declared.class_file.PoolEntry.{PoolEntry}
@@ -144,3 +144,14 @@ grows_start pool = record {
   all = tt;
   only = λ c h. inl h;
 }
+
+-- what the pool has become of one that was there
+pub grown : (old new : List PoolEntry) (cs : List Const) (c : Const) (r : Result ℕ PoolFault) → Adds old new cs c r → IfOk r (λ n. Named old c ⊎ Grows old cs new)
+grown old new cs c (Ok n) h = inr (subst (λ (ds : List Const). Grows old ds new) (append-nil cs) (h.2 old [] (grows_start old)))
+grown old new cs c (Err e) h = tt
+
+pub passed : (old new : List PoolEntry) (cs : List Const) (c : Const) (r : Result ℕ PoolFault) → Adds old new cs c r → IfErr r (λ e. e ≡ faults.Full → AreTooMany old cs)
+passed old new cs c (Ok n) h = tt
+passed old new cs c (Err faults.Full) h = λ _. subst (AreTooMany old) (append-nil cs) (h.1 old [] (grows_start old))
+passed old new cs c (Err faults.Memory) h = λ same. absurd cc
+

@@ -3,6 +3,7 @@ use Rattle.std.proofs.Common.{◌≡◌, ◌≢◌, ℕ, zero, suc, ◌+◌, ◌
 use Rattle.std.specs.Prelude.{IsSomeAnd, IfSome, IsTrue, replicate, codes, nat_le}
 use Rattle.std.specs.Option.{option_map, option_and_then}
 use Rattle.std.specs.List.{AllByRecursion, flat_map}
+use Rattle.std.proofs.lemmas.Bool.Decides.{nat_tests}
 use Rattle.wv_base.specs.declared.descriptor.Primitive.{Primitive}
 use Rattle.wv_base.specs.declared.descriptor.Primitive.TheVariants as primitives
 use Rattle.wv_base.specs.declared.descriptor.ElementType.{ElementType}
@@ -19,8 +20,9 @@ use Rattle.wv_base.specs.Names.{is_unqualified}
 use Rattle.wv_base.specs.Descriptor.{element_descriptor, descriptor_of, method_descriptor_of, result_descriptor, IsFieldDescriptor, IsMethodDescriptor, IsClassConstant}
 use Rattle.wv_pool.specs.References.{entry_of, text_of, class_of, pair_of, pair_name, IsClass, IsText, IsFieldPair, IsMethodPair, HasAngle, IsInit, IsSpecial, KindFits, IsMember, IsSound}
 use Rattle.wv_pool.specs.Constants.{class_name, both, named_pair, member_of, member, handle, constant_in, constant_of}
-use Rattle.wv_pool.specs.Allowed.{IsFieldText, IsMethodText}
-use Rattle.wv_pool.proofs.Behind.{some_is, then_some, text_is, class_is, pair_is, field_handle, method_handle}
+use Rattle.wv_pool.specs.Allowed.{IsFieldText, IsMethodText, IsFieldReference, IsMethodReference, IsHandle}
+use Rattle.wv_pool.specs.Adding.{handled, member_needs}
+use Rattle.wv_pool.proofs.Behind.{some_is, then_some, text_is, class_is, pair_is, field_handle, method_handle, field_entry, method_entry, interface_entry}
 use Rattle.wv_pool.proofs.Putting.{texts_some, both_some, member_some}
 
 pub are_units : (name : List ℕ) → ((i : ℕ) → get_or name i 0 < 2 ^ 16) → IsName name
@@ -127,3 +129,72 @@ module _ (pool : List PoolEntry) where
 
   pub dynamic_named : (bootstrap n : ℕ) (x y : List ℕ) → constant_of pool n ≡ Some (constants.NameAndType x y) → constant_in pool (entries.InvokeDynamic bootstrap n) ≡ Some (constants.InvokeDynamic bootstrap x y)
   dynamic_named bootstrap n x y e = ap (option_map (λ p. constants.InvokeDynamic bootstrap p.0 p.1)) (pair_is pool n x y e)
+
+  -- ---- handles
+
+  -- the name behind a member's pair
+  member_name : (a b : ℕ) (m : MemberReference) → member pool a b ≡ Some m → pair_name pool (pair_of pool b) ≡ Some m.name
+  member_name a b m e =
+      let p = member_some (class_name pool a) (named_pair pool b) m e in
+      let t = pair_parts b m.name m.descriptor p.1 in
+      ap (pair_name pool) t.1 ∙ t.2
+
+  module _ (kind n : ℕ) (m : MemberReference) where
+    field_handle_sound : constant_of pool n ≡ Some (constants.Field m) → 1 ≤ kind → kind ≤ 4 → IsSound pool (entries.MethodHandle kind n)
+    field_handle_sound e low high =
+        let t = then_some (constant_in pool) (entry_of pool n) (constants.Field m) e in
+        let f = field_entry pool t.0 m t.2 in
+        let entry : entry_of pool n ≡ Some (entries.Field f.0 f.1) = t.1 ∙ ap (λ (x : PoolEntry). Some x) f.2 in
+        ((low, omega (arith, high), subst (KindFits pool kind) (sym entry) high), subst IsMember (sym entry) tt)
+
+    method_handle_sound : constant_of pool n ≡ Some (constants.Method m false) → 5 ≤ kind → kind ≤ 8 → (kind ≡ 8 → IsInit m.name) → (kind ≢ 8 → IsSpecial m.name → ⊥) → IsSound pool (entries.MethodHandle kind n)
+    method_handle_sound e low high init special =
+        let t = then_some (constant_in pool) (entry_of pool n) (constants.Method m false) e in
+        let f = method_entry pool t.0 m t.2 in
+        let entry : entry_of pool n ≡ Some (entries.Method f.0 f.1) = t.1 ∙ ap (λ (x : PoolEntry). Some x) f.2 in
+        let fits = subst (λ (name : Option (List ℕ)). (5 ≤ kind) × (kind ≤ 8) × (kind ≡ 8 → IfSome name IsInit) × (kind ≢ 8 → IfSome name (λ x. IsSpecial x → ⊥))) (sym (member_name f.0 f.1 m f.3)) (low, high, init, special) in
+        ((omega (arith, low), omega (arith, high), subst (KindFits pool kind) (sym entry) fits), subst IsMember (sym entry) tt)
+
+    interface_handle_sound : constant_of pool n ≡ Some (constants.Method m true) → 6 ≤ kind → kind ≤ 9 → kind ≢ 8 → (IsSpecial m.name → ⊥) → IsSound pool (entries.MethodHandle kind n)
+    interface_handle_sound e low high other special =
+        let t = then_some (constant_in pool) (entry_of pool n) (constants.Method m true) e in
+        let f = interface_entry pool t.0 m t.2 in
+        let entry : entry_of pool n ≡ Some (entries.InterfaceMethod f.0 f.1) = t.1 ∙ ap (λ (x : PoolEntry). Some x) f.2 in
+        let fits = subst (λ (name : Option (List ℕ)). (6 ≤ kind) × (kind ≢ 8) × IfSome name (λ x. IsSpecial x → ⊥)) (sym (member_name f.0 f.1 m f.3)) (low, other, special) in
+        ((omega (arith, low), omega (arith, high), subst (KindFits pool kind) (sym entry) fits), subst IsMember (sym entry) tt)
+
+  low_kind : (kind : ℕ) (m : MemberReference) (i : Bool) → kind ≤ 4 → handled kind m i ≡ constants.Field m
+  low_kind kind m i low = let test : nat_le kind 4 ≡ true = grind (arith, nat_tests, low) in ap (λ (b : Bool). cond b (constants.Field m) (constants.Method m i)) test
+
+  high_kind : (kind : ℕ) (m : MemberReference) (i : Bool) → 5 ≤ kind → handled kind m i ≡ constants.Method m i
+  high_kind kind m i high = let test : nat_le kind 4 ≡ false = grind (arith, nat_tests, high) in ap (λ (b : Bool). cond b (constants.Field m) (constants.Method m i)) test
+
+  handled_as : (n : ℕ) (c d : Const) → c ≡ d → constant_of pool n ≡ Some c → constant_of pool n ≡ Some d
+  handled_as n c d same e = e ∙ ap (λ (x : Const). Some x) same
+
+  pub handle_sound : (kind n : ℕ) (m : MemberReference) (i : Bool) → IsHandle kind m i → constant_of pool n ≡ Some (handled kind m i) → IsSound pool (entries.MethodHandle kind n)
+  handle_sound kind n m true h e = interface_handle_sound kind n m (handled_as n (handled kind m true) (constants.Method m true) (high_kind kind m true (omega (arith, h.1))) e) h.1 h.2 h.3 h.4
+  handle_sound kind n m false (inl h) e = field_handle_sound kind n m (handled_as n (handled kind m false) (constants.Field m) (low_kind kind m false h.2) e) h.1 h.2
+  handle_sound kind n m false (inr h) e = method_handle_sound kind n m (handled_as n (handled kind m false) (constants.Method m false) (high_kind kind m false h.1) e) h.1 h.2 h.3 h.4
+
+  pub handle_named : (kind n : ℕ) (m : MemberReference) (i : Bool) → IsHandle kind m i → constant_of pool n ≡ Some (handled kind m i) → constant_in pool (entries.MethodHandle kind n) ≡ Some (constants.MethodHandle kind m i)
+  handle_named kind n m true h e = method_handle pool kind n m true (handled_as n (handled kind m true) (constants.Method m true) (high_kind kind m true (omega (arith, h.1))) e)
+  handle_named kind n m false (inl h) e = field_handle pool kind n m (handled_as n (handled kind m false) (constants.Field m) (low_kind kind m false h.2) e)
+  handle_named kind n m false (inr h) e = method_handle pool kind n m false (handled_as n (handled kind m false) (constants.Method m false) (high_kind kind m false h.1) e)
+
+-- what a handle of a kind names
+pub handles_field : (kind : ℕ) (m : MemberReference) (i : Bool) → IsHandle kind m i → kind ≤ 4 → IsFieldReference m
+handles_field kind m true h low = let k = h.1 in absurd (omega (arith, k, low))
+handles_field kind m false (inl h) low = h.0
+handles_field kind m false (inr h) low = let k = h.1 in absurd (omega (arith, k, low))
+
+pub handles_method : (kind : ℕ) (m : MemberReference) (i : Bool) → IsHandle kind m i → 5 ≤ kind → IsMethodReference m
+handles_method kind m true h high = h.0
+handles_method kind m false (inl h) high = let k = h.2 in absurd (omega (arith, k, high))
+handles_method kind m false (inr h) high = h.0
+
+pub handled_field : (kind : ℕ) (m : MemberReference) (i : Bool) → kind ≤ 4 → handled kind m i ≡ constants.Field m
+handled_field kind m i low = low_kind [] kind m i low
+
+pub handled_method : (kind : ℕ) (m : MemberReference) (i : Bool) → 5 ≤ kind → handled kind m i ≡ constants.Method m i
+handled_method kind m i high = high_kind [] kind m i high
