@@ -1,9 +1,8 @@
 //! An offline loader and weaver for mods of Java programs.
 #![tactic(auto)]
 
-use std::env;
-use std::io;
 use std::process::ExitCode;
+use std::{env, io};
 use wv_top::{Status, loader};
 use wv_tree::{DirOutlet, DirTree, OutSink};
 
@@ -24,13 +23,7 @@ fn run(rt: HostRuntime) -> Result<Status, Status> {
     let mut tree = DirTree::new(alloc, tree_runtime);
     let mut outlet = DirOutlet::new(alloc, outlet_runtime);
     let mut sink = OutSink::new(rt);
-    Ok(loader(
-        alloc,
-        words.as_slice(),
-        &mut tree,
-        &mut outlet,
-        &mut sink,
-    ))
+    Ok(loader(alloc, words.as_slice(), &mut tree, &mut outlet, &mut sink))
 }
 
 fn main(rt: HostRuntime) -> ExitCode {

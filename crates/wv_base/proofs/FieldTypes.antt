@@ -1,6 +1,6 @@
 -- Reading a type from the front is the inverse of its descriptor.
-use Rattle.std.proofs.Common.{◌≡◌, ℕ, zero, suc, ◌+◌, ◌<◌, ◌≤◌, Bool, true, false, cond, eqb, ltb, leb, List, [], ◌∷◌, ◌++◌, length, take, drop, replicate, Option, Some, None, refl, sym, ap, subst, ◌∙◌, ◌⊎◌, inl, inr, arith, append_assoc, add-one, get_or}
-use Rattle.std.specs.Prelude.{◌&&◌, ◌||◌, ◌==◌, not, IsTrue, nat_lt, nat_le}
+use Rattle.std.proofs.Common.{◌≡◌, ℕ, zero, suc, ◌+◌, ◌<◌, ◌≤◌, Bool, true, false, cond, ltb, List, [], ◌∷◌, ◌++◌, length, take, drop, replicate, Option, Some, None, refl, sym, ap, ◌∙◌, inl, inr, arith, append_assoc, add-one, get_or}
+use Rattle.std.specs.Prelude.{◌&&◌, ◌==◌, nat_lt, nat_le}
 use Rattle.std.specs.Option.{option_map}
 use Rattle.std.specs.List.{AllByRecursion, list_all, slice_split, onto_first, prefix_len, position_or_len}
 use Rattle.std.proofs.lemmas.Bool.{cases_Bool, and_parts, eqb-true, leb-true, ltb-true, le-leb, lt-ltb}
@@ -53,7 +53,7 @@ no_semicolon [] e = tt
 no_semicolon (unit ∷ rest) e = go (unit == SLASH) refl (λ h. no_semicolon rest h) (slice_split (λ u. u == SLASH) rest) refl e
   where
     go : (slash : Bool) → (unit == SLASH) ≡ slash → (list_all (list_all is_name_unit) (slice_split (λ u. u == SLASH) rest) ≡ true → HasNone SEMICOLON rest)
-       → (parts : List (List ℕ)) → slice_split (λ u. u == SLASH) rest ≡ parts → list_all (list_all is_name_unit) (cond slash ([] ∷ parts) (onto_first unit parts)) ≡ true → HasNone SEMICOLON (unit ∷ rest)
+        → (parts : List (List ℕ)) → slice_split (λ u. u == SLASH) rest ≡ parts → list_all (list_all is_name_unit) (cond slash ([] ∷ parts) (onto_first unit parts)) ≡ true → HasNone SEMICOLON (unit ∷ rest)
     go true is behind parts split e = (slash_is_other unit is, behind (rw split e))
     go false is behind [] split e =
         let both = and_parts (is_name_unit unit && true) true e in
@@ -161,7 +161,7 @@ take_brackets [] = refl
 take_brackets (unit ∷ rest) = go (unit == BRACKET) refl (take_brackets rest)
   where
     go : (bracket : Bool) → (unit == BRACKET) ≡ bracket → replicate (prefix_len (λ u. u == BRACKET) rest) BRACKET ≡ take (prefix_len (λ u. u == BRACKET) rest) rest
-       → replicate (cond bracket (1 + prefix_len (λ u. u == BRACKET) rest) 0) BRACKET ≡ take (cond bracket (1 + prefix_len (λ u. u == BRACKET) rest) 0) (unit ∷ rest)
+        → replicate (cond bracket (1 + prefix_len (λ u. u == BRACKET) rest) 0) BRACKET ≡ take (cond bracket (1 + prefix_len (λ u. u == BRACKET) rest) 0) (unit ∷ rest)
     go true is behind = rw (one-add, eqb-true unit BRACKET is) (ap (λ (t : List ℕ). BRACKET ∷ t) behind)
     go false is behind = refl
 

@@ -1,5 +1,5 @@
 -- Reading a method's type from its descriptor.
-use Rattle.std.proofs.Common.{◌≡◌, ℕ, zero, suc, ◌+◌, ◌*◌, ◌<◌, ◌≤◌, List, [], ◌∷◌, ◌++◌, length, Option, Some, None, refl, sym, ap, subst, ◌∙◌, arith, append_assoc, lit<, lit≤, Bool, true, false, cond, replicate}
+use Rattle.std.proofs.Common.{◌≡◌, ◌↔◌, ℕ, ◌+◌, ◌*◌, ◌<◌, ◌≤◌, List, [], ◌∷◌, ◌++◌, length, Option, Some, None, refl, sym, ap, subst, ◌∙◌, arith, append_assoc, lit<, lit≤, Bool, true, false, cond, replicate}
 use Rattle.std.specs.Prelude.{codes, bytes_eq, ◌==◌, IfNone}
 use Rattle.std.specs.Option.{option_map}
 use Rattle.std.specs.List.{AllByRecursion, flat_map, sum_by}
@@ -13,7 +13,7 @@ use Rattle.wv_base.specs.declared.grammar.TheConstants.{BRACKET}
 use Rattle.wv_base.specs.declared.descriptor.Primitive.TheVariants.{Boolean, Byte, Char, Short, Int, Long, Float, Double}
 use Rattle.wv_base.specs.declared.descriptor.ElementType.{ElementType}
 use Rattle.wv_base.specs.declared.descriptor.ElementType.TheVariants as elements
-use Rattle.wv_base.specs.Descriptor.{element_descriptor, element_words, descriptor_of, result_descriptor, method_descriptor_of, field_words, parameter_words, IsFieldType, IsFieldDescriptor, IsResult, IsMethodType, IsMethodDescriptor, HasWords}
+use Rattle.wv_base.specs.Descriptor.{element_descriptor, element_words, descriptor_of, result_descriptor, method_descriptor_of, field_words, IsFieldType, IsFieldDescriptor, IsResult, IsMethodType, HasWords}
 use Rattle.wv_base.specs.DescriptorReading.{element_at, field_at, IsParametersFront}
 use Rattle.wv_base.proofs.FieldTypes.{some_is, IsFieldFront, field_again, field_found}
 
@@ -26,6 +26,9 @@ IfNone-from (Some x) p = tt
 -- units that begin as a type's descriptor does are read as that type
 reads_field : (field : FieldType) (rest units : List ℕ) → IsFieldType field → units ≡ descriptor_of field ++ rest → field_at units ≡ Some (field, rest)
 reads_field field rest units is e = rw e (field_again field rest is)
+
+pub front_is : (units rest : List ℕ) (field : FieldType) → (field_at units ≡ Some (field, rest)) ↔ (IsFieldType field × (units ≡ descriptor_of field ++ rest))
+front_is units rest field = (λ e. let front = field_found units (field, rest) e in (front.is, front.spelled), λ is. reads_field field rest units is.0 is.1)
 
 field_cancel : (a b : FieldType) (x y : List ℕ) → IsFieldType a → IsFieldType b → descriptor_of a ++ x ≡ descriptor_of b ++ y → (a ≡ b) × (x ≡ y)
 field_cancel a b x y is_a is_b e =
@@ -126,7 +129,7 @@ parameters_cancel (a ∷ fields) [] rest behind is_fields is_others e =
     absurd (cc (close_is_none behind, read))
 parameters_cancel (a ∷ fields) (b ∷ others) rest behind is_fields is_others e =
     let here = field_cancel a b (flat_map descriptor_of fields ++ rest) (flat_map descriptor_of others ++ CLOSE ∷ behind) is_fields.0 is_others.0
-      (sym (append_assoc (descriptor_of a) (flat_map descriptor_of fields) rest) ∙ e ∙ append_assoc (descriptor_of b) (flat_map descriptor_of others) (CLOSE ∷ behind)) in
+    (sym (append_assoc (descriptor_of a) (flat_map descriptor_of fields) rest) ∙ e ∙ append_assoc (descriptor_of b) (flat_map descriptor_of others) (CLOSE ∷ behind)) in
     let next = parameters_cancel fields others rest behind is_fields.1 is_others.1 here.1 in
     (next.0, next.1, cc, next.3)
 
@@ -155,13 +158,16 @@ read_on units fields rest after words more has e =
     let longer : 0 < length (descriptor_of field) = some_descriptor field in
     let cut : length rest ≡ length (descriptor_of field) + length after = ap length found.2.spelled ∙ length-append (descriptor_of field) after in
     let one : flat_map descriptor_of (fields ++ field ∷ []) ≡ flat_map descriptor_of fields ++ descriptor_of field =
-      flat_map-append descriptor_of fields (field ∷ []) ∙ ap (λ (t : List ℕ). flat_map descriptor_of fields ++ t) (append-nil (descriptor_of field)) in
-    (field, record {
-      each = each-append fields (field ∷ []) has.each (found.2.is, tt);
-      spelled = has.spelled ∙ ap (λ (t : List ℕ). flat_map descriptor_of fields ++ t) found.2.spelled ∙ sym (append_assoc (flat_map descriptor_of fields) (descriptor_of field) after) ∙ ap (λ (t : List ℕ). t ++ after) (sym one);
-      counted = rw (sum_by_push field_words fields field, ← has.counted, ← found.1) refl;
-      bounded = omega (arith, has.bounded, cut, longer, few_words field, found.1);
-    }, omega (arith, cut, longer))
+    flat_map-append descriptor_of fields (field ∷ []) ∙ ap (λ (t : List ℕ). flat_map descriptor_of fields ++ t) (append-nil (descriptor_of field)) in (
+      field,
+      record {
+        each = each-append fields (field ∷ []) has.each (found.2.is, tt);
+        spelled = has.spelled ∙ ap (λ (t : List ℕ). flat_map descriptor_of fields ++ t) found.2.spelled ∙ sym (append_assoc (flat_map descriptor_of fields) (descriptor_of field) after) ∙ ap (λ (t : List ℕ). t ++ after) (sym one);
+        counted = rw (sum_by_push field_words fields field, ← has.counted, ← found.1) refl;
+        bounded = omega (arith, has.bounded, cut, longer, few_words field, found.1);
+      },
+      omega (arith, cut, longer),
+    )
 
 -- ---- methods
 

@@ -71,12 +71,13 @@ IsMethodType method = AllByRecursion IsFieldType method.parameters × IsResult m
 abbrev pub IsMethodDescriptor : List ℕ → Type 0
 IsMethodDescriptor units = (method : MethodType) × IsMethodType method × (units ≡ method_descriptor_of method)
 
--- how many words a value of the type takes (4.3.3): two for long and double, else one
+-- how many words a value takes (4.3.3): two where it is a long or a double, else one
 abbrev pub element_words : ElementType → ℕ
 element_words (elements.Primitive Long) = 2
 element_words (elements.Primitive Double) = 2
 element_words _ = 1
 
+-- the same of a type: an array takes one
 abbrev pub field_words : FieldType → ℕ
 field_words field = if field.dimensions == 0 then element_words field.element else 1
 

@@ -1,5 +1,5 @@
 -- Reading modified UTF-8 from left to right (JVM Specification 4.4.7), with the place of the first
--- fault. That this is the reading of `spelling` and of no other bytes, the laws of `from_modified` say.
+-- fault. That this is the reading of `spelling` and of no other bytes, the laws of `one_reading` say.
 use Rattle.std.specs.Prelude.{◌≡◌, ℕ, zero, suc, ◌+◌, ◌-◌, ◌*◌, Bool, ◌&&◌, ◌||◌, ◌==◌, nat_lt, nat_le, if◌then◌else◌, List, [], ◌∷◌, length, Result, Ok, Err}
 use Rattle.wv_base.specs.declared.modified.TextFault.{TextFault}
 use Rattle.wv_base.specs.declared.modified.TextFault.TheVariants as faults
@@ -16,6 +16,7 @@ two_at first (second ∷ rest) =
     if is_next second && (nat_lt 0xC1 first || second == 0x80)
     then Ok ((first - 0xC0) * 64 + (second - 0x80), rest) else Err 1
 
+-- the same behind the first two of three bytes
 unfoldable pub third_at : ℕ → ℕ → List ℕ → Result (ℕ × List ℕ) ℕ
 third_at first second [] = Err 2
 third_at first second (third ∷ rest) =
@@ -42,6 +43,7 @@ abbrev pub unit_before : ℕ → Result (List ℕ) ℕ → Result (List ℕ) ℕ
 unit_before unit (Ok name) = Ok (unit ∷ name)
 unit_before unit (Err at) = Err (length (unit_spelling unit) + at)
 
+-- a step, and what follows where it gives no fault
 infixl 10 ◌>>=◌
 abbrev pub ◌>>=◌ : {A B : Type 0} → Result A ℕ → (A → Result B ℕ) → Result B ℕ
 (Ok x) >>= f = f x

@@ -1,5 +1,5 @@
 -- The grammar of names in class files (JVM Specification 4.2).
-use Rattle.std.specs.Prelude.{ℕ, Bool, not, ◌&&◌, ◌||◌, ◌==◌, List, [], length, codes, bytes_eq, nat_lt}
+use Rattle.std.specs.Prelude.{ℕ, Bool, not, ◌&&◌, ◌||◌, ◌==◌, List, length, codes, bytes_eq, nat_lt}
 use Rattle.std.specs.List.{list_all, slice_split}
 use Rattle.wv_base.specs.declared.grammar.TheConstants.{DOT, SLASH, SEMICOLON, BRACKET, LESS, GREATER}
 
@@ -15,6 +15,7 @@ is_unqualified name = nat_lt 0 (length name) && list_all is_name_unit name
 abbrev pub is_class_name : List ℕ → Bool
 is_class_name name = list_all is_unqualified (slice_split (λ unit. unit == SLASH) name)
 
+-- one of  < >
 abbrev pub is_angle : ℕ → Bool
 is_angle unit = unit == LESS || unit == GREATER
 

@@ -28,10 +28,10 @@ impl Broken {
     /// A rule that is broken at a file, where nothing is said of what was wanted and found.
     pub fn at_file(alloc: Global, rule: Rule, path: &str) -> Result<Broken, Memory>
         ensures { IfOk result (λ broken. broken ≡ record {
-            rule = rule;
-            place = record { file = path.now; member = None; index = None };
-            wanted = codes "-";
-            found = codes "-"
+          rule = rule;
+          place = record { file = path.now; member = None; index = None };
+          wanted = codes "-";
+          found = codes "-";
         }) }
     {
         Ok(Broken {

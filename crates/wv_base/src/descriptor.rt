@@ -1,5 +1,5 @@
 //! Descriptors of fields and methods (JVM Specification 4.3).
-ghost use Rattle.std.specs.Prelude.{◌≡◌, ◌≤◌, ◌==◌, ◌↔◌, ℕ, length, List, [], ◌∷◌, IsTrue, IfSome, IfNone, Option};
+ghost use Rattle.std.specs.Prelude.{◌≡◌, ◌≤◌, ◌==◌, ◌↔◌, ◌++◌, ℕ, length, List, [], ◌∷◌, IsTrue, IfSome, IfNone, Option};
 ghost use Rattle.std.specs.Option.{option_map};
 ghost use Rattle.std.specs.List.{prefix_len, position, sum_by};
 ghost use Rattle.wv_base.specs.Descriptor.{element_words, field_words, descriptor_of, result_descriptor, method_descriptor_of, IsFieldType, IsResult, IsMethodType, IsFieldDescriptor, IsMethodDescriptor, IsClassConstant, HasWords};
@@ -9,10 +9,14 @@ use crate::grammar::{BRACKET, SEMICOLON, is_class};
 use crate::name::Name;
 use sqlite_items::Items;
 
-pub(crate) const OPEN: u16 = b'(' as u16;
-pub(crate) const CLOSE: u16 = b')' as u16;
+const OPEN: u16 = b'(' as u16;
+
+const CLOSE: u16 = b')' as u16;
+
 const CLASS: u16 = b'L' as u16;
+
 const VOID: [u16; 1] = [b'V' as u16];
+
 /// How many dimensions an array has at most (JVM Specification 4.3.2).
 const MAX_DIMENSIONS: usize = 255;
 
@@ -182,11 +186,7 @@ fn method_words(units: &[u16]) -> Option<usize>
     ensures none { IfNone result (IsMethodDescriptor units.now → ⊥) }
 {
     let (words, after) = after_parameters(behind(units, OPEN)?)?;
-    if is_result(after) {
-        Some(words)
-    } else {
-        None
-    }
+    if is_result(after) { Some(words) } else { None }
 }
 
 /// Whether this is a field descriptor (JVM Specification 4.3.2).
@@ -223,9 +223,77 @@ pub fn is_class_constant(name: &Name) -> bool
     }
 }
 
-/// No two types have one descriptor.
+/// No two types have one descriptor, not even with other units behind it: reading from the front
+/// gives the one type whose descriptor stands there.
 pub fn one_descriptor()
+    ensures front { (units rest : List ℕ) (field : FieldType) → (field_at units ≡ Some (field, rest)) ↔ (IsFieldType field × (units ≡ descriptor_of field ++ rest)) }
     ensures field { (a b : FieldType) → IsFieldType a → IsFieldType b → descriptor_of a ≡ descriptor_of b → a ≡ b }
     ensures method { (a b : MethodType) → IsMethodType a → IsMethodType b → method_descriptor_of a ≡ method_descriptor_of b → a ≡ b }
-{
+{}
+
+#[cfg(test)]
+mod tests {
+    use super::*;
+    use std::test::Fail;
+
+    #[test]
+    fn fields(rt: HostRuntime) -> Result<(), Fail> {
+        for (text, is) in [
+            ("I", true),
+            ("Z", true),
+            ("Ljava/lang/Object;", true),
+            ("[[D", true),
+            ("[La;", true),
+            ("", false),
+            ("V", false),
+            ("[", false),
+            ("[V", false),
+            ("II", false),
+            ("La", false),
+            ("L;", false),
+            ("La//b;", false),
+            ("La.b;", false),
+            ("La;;", false),
+        ] {
+            let name = Name::from_ascii(rt.alloc(), text)?;
+            assert_eq!(rt; is_field_descriptor(&name), is, "{text}");
+        }
+        Ok(())
+    }
+
+    #[test]
+    fn dimensions(rt: HostRuntime) -> Result<(), Fail> {
+        for (dimensions, is) in [(0, true), (1, true), (255, true), (256, false)] {
+            let mut units = vec![in rt.alloc(); BRACKET; dimensions]?;
+            units.push(b'I' as u16)?;
+            let name = Name::from_vec(rt.alloc(), units)?;
+            assert_eq!(rt; is_field_descriptor(&name), is, "{dimensions}");
+            // With no dimension, this is a class of the name I.
+            assert_eq!(rt; is_class_constant(&name), is, "{dimensions}");
+        }
+        Ok(())
+    }
+
+    #[test]
+    fn methods(rt: HostRuntime) -> Result<(), Fail> {
+        for (text, words) in [
+            ("()V", Some(0)),
+            ("(IDLjava/lang/Thread;)Ljava/lang/Object;", Some(4)),
+            ("([J[[DJZ)[I", Some(5)),
+            ("", None),
+            ("()", None),
+            ("V", None),
+            ("(V)V", None),
+            ("(I)", None),
+            ("(I", None),
+            ("()VV", None),
+            ("(La/b)V", None),
+            ("I()V", None),
+        ] {
+            let name = Name::from_ascii(rt.alloc(), text)?;
+            assert_eq!(rt; parameter_words(&name), words, "{text}");
+            assert_eq!(rt; is_method_descriptor(&name), words.is_some(), "{text}");
+        }
+        Ok(())
+    }
 }

@@ -5,15 +5,36 @@ ghost use Rattle.wv_base.specs.Names.{is_name_unit, is_unqualified, is_class_nam
 
 use crate::name::Name;
 
-pub(crate) const DOT: u16 = b'.' as u16;
-pub(crate) const SLASH: u16 = b'/' as u16;
+const DOT: u16 = b'.' as u16;
+
+const SLASH: u16 = b'/' as u16;
+
 pub(crate) const SEMICOLON: u16 = b';' as u16;
+
 pub(crate) const BRACKET: u16 = b'[' as u16;
+
 const LESS: u16 = b'<' as u16;
+
 const GREATER: u16 = b'>' as u16;
-const INIT: [u16; 6] = [LESS, b'i' as u16, b'n' as u16, b'i' as u16, b't' as u16, GREATER];
+
+const INIT: [u16; 6] = [
+    LESS,
+    b'i' as u16,
+    b'n' as u16,
+    b'i' as u16,
+    b't' as u16,
+    GREATER,
+];
+
 const CLINIT: [u16; 8] = [
-    LESS, b'c' as u16, b'l' as u16, b'i' as u16, b'n' as u16, b'i' as u16, b't' as u16, GREATER,
+    LESS,
+    b'c' as u16,
+    b'l' as u16,
+    b'i' as u16,
+    b'n' as u16,
+    b'i' as u16,
+    b't' as u16,
+    GREATER,
 ];
 
 fn is_name_unit(unit: u16) -> bool
@@ -34,8 +55,8 @@ fn is_unqualified(units: &[u16]) -> bool
     !units.is_empty() && are_name_units(units)
 }
 
-/// Whether the units are a class name, without an allocation.
-pub(crate) fn is_class(units: &[u16]) -> bool
+/// Whether the units are the name of a class, as `is_class_name` says of a name.
+pub fn is_class(units: &[u16]) -> bool
     ensures { result ≡ is_class_name units.now }
 {
     units.split(|unit| *unit == SLASH).all(is_unqualified)
@@ -73,5 +94,40 @@ pub fn is_method_name(name: &Name) -> bool
     ensures { result ≡ is_method_name name.now }
 {
     let units = name.units();
-    units == INIT.as_slice() || units == CLINIT.as_slice() || (is_unqualified(units) && have_no_angles(units))
+    units == INIT.as_slice()
+        || units == CLINIT.as_slice()
+        || (is_unqualified(units) && have_no_angles(units))
+}
+
+#[cfg(test)]
+mod tests {
+    use super::*;
+    use std::test::Fail;
+
+    #[test]
+    fn names(rt: HostRuntime) -> Result<(), Fail> {
+        for (text, class, field, method) in [
+            ("Object", true, true, true),
+            ("java/lang/Object", true, false, false),
+            ("a-b c$1", true, true, true),
+            ("<init>", true, true, true),
+            ("<clinit>", true, true, true),
+            ("<init", true, true, false),
+            ("a>", true, true, false),
+            ("a<b/c", true, false, false),
+            ("", false, false, false),
+            ("/a", false, false, false),
+            ("a/", false, false, false),
+            ("a//b", false, false, false),
+            ("a.b", false, false, false),
+            ("a;", false, false, false),
+            ("[I", false, false, false),
+        ] {
+            let name = Name::from_ascii(rt.alloc(), text)?;
+            assert_eq!(rt; is_class_name(&name), class, "{text}");
+            assert_eq!(rt; is_field_name(&name), field, "{text}");
+            assert_eq!(rt; is_method_name(&name), method, "{text}");
+        }
+        Ok(())
+    }
 }

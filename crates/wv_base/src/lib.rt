@@ -29,16 +29,16 @@ pub use action::{Action, ActionKind, HookList, Hooks, Spot};
 pub use broken::{Broken, Place};
 pub use bytes::Bytes;
 pub use class_file::{Attribute, Body, ClassFile, ClassVersion, ExceptionRange, Member, PoolEntry};
+pub use constant::{Const, MemberReference};
 pub use descriptor::{
     ElementType, FieldType, MethodType, Primitive, is_class_constant, is_field_descriptor,
     is_method_descriptor, one_descriptor, parameter_words,
 };
-pub use constant::{Const, MemberReference};
 pub use fault::{ClassFault, LimitFault};
 pub use folder::Folder;
 pub use form::Form;
-pub use grammar::{is_class_name, is_field_name, is_method_name};
 pub use frame::{Frame, FrameAt, FrameList, VType};
+pub use grammar::{is_class, is_class_name, is_field_name, is_method_name};
 pub use insn::{Case, Cases, Insn, Targets};
 pub use line::{LINE, write_broken};
 pub use memory::Memory;
@@ -50,3 +50,6 @@ pub use rule::Rule;
 pub use side::Side;
 pub use sqlite_items::{Boxed, Items};
 pub use text::Text;
+
+#[cfg(test)]
+mod tests;

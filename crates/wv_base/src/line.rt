@@ -134,3 +134,65 @@ pub fn write_broken(broken: &Broken, out: &mut [u8; LINE]) -> usize
     out[kept] = b'\n';
     kept + 1
 }
+
+#[cfg(test)]
+mod tests {
+    use super::*;
+    use crate::rule::Rule;
+    use std::alloc::Global;
+    use std::test::Fail;
+
+    /// A refusal at a path of so many letters `a`, with a character of three bytes behind them.
+    fn refusal_at(alloc: Global, letters: usize) -> Result<Broken, Fail> {
+        let mut path = String::new(alloc);
+        for _ in 0..letters {
+            path.push('a')?;
+        }
+        path.push('\u{20ac}')?;
+        Ok(Broken::at_file(alloc, Rule::OutOfForm, path.as_str())?)
+    }
+
+    #[test]
+    fn a_line_tells_rule_and_place(rt: HostRuntime) -> Result<(), Fail> {
+        let alloc = rt.alloc();
+        let broken = Broken {
+            rule: Rule::ConstructorSpot,
+            place: Place {
+                file: Text::from_str(alloc, "a\n\u{7f}.class")?,
+                member: Some(Text::from_str(alloc, "f()V")?),
+                index: Some(12),
+            },
+            wanted: Text::from_str(alloc, "-")?,
+            found: Text::from_str(alloc, "b")?,
+        };
+        let mut out = [0; LINE];
+        let length = write_broken(&broken, &mut out);
+        let line = b"refused: rule 69 ConstructorSpot at a??.class:f()V@12 wanted - found b\n";
+        assert_eq!(rt; &out[..length], line.as_slice());
+        Ok(())
+    }
+
+    /// All but the letters takes 49 bytes, so that 4,046 letters make a line of 4,095 bytes. The
+    /// character of three bytes begins at byte 29 + `letters`.
+    #[test]
+    fn a_long_line_is_cut_to_whole_characters(rt: HostRuntime) -> Result<(), Fail> {
+        let alloc = rt.alloc();
+        let mut out = [0; LINE];
+        let rows = [
+            (4046, 4096, b'-'),
+            (4047, 4096, b' '),
+            (4063, 4096, 0xac),
+            (4064, 4094, b'a'),
+            (4065, 4095, b'a'),
+            (4066, 4096, b'a'),
+        ];
+        for (letters, want, last) in rows {
+            let length = write_broken(&refusal_at(alloc, letters)?, &mut out);
+            assert_eq!(rt; length, want, "{letters} letters");
+            assert!(rt; 2 <= length && length <= LINE);
+            assert_eq!(rt; out[length - 2], last, "{letters} letters");
+            assert_eq!(rt; out[length - 1], b'\n');
+        }
+        Ok(())
+    }
+}

@@ -109,7 +109,7 @@ text_short last rest left fits e =
     let letters = letters_spell len in
     let spelled : EntrySpelled last (1 ∷ (number_bytes len ++ ([] ++ replicate len 97))) = text_spelled last len [] (replicate len 97) (replicate len 97) b.1 letters.1 (sym letters.0) (ap length letters.0 ∙ length-replicate {A = ℕ} len 97) in
     let regrouped : 1 ∷ (number_bytes len ++ replicate len 97) ≡ (1 ∷ rest) ++ (more ++ replicate len 97) =
-        ap (λ (t : List ℕ). 1 ∷ (t ++ replicate len 97)) b.0 ∙ ap (λ (t : List ℕ). 1 ∷ t) (append_assoc rest more (replicate len 97)) in
+    ap (λ (t : List ℕ). 1 ∷ (t ++ replicate len 97)) b.0 ∙ ap (λ (t : List ℕ). 1 ∷ t) (append_assoc rest more (replicate len 97)) in
     rw s.0 (record {
       within = omega arith;
       begins = (more ++ replicate len 97, subst (EntrySpelled last) (regrouped ∙ ap (λ (t : List ℕ). t ++ (more ++ replicate len 97)) (sym (all_left (1 ∷ rest)))) spelled);
@@ -129,7 +129,7 @@ text_stopped last len place left bytes rest small bytes-is sum begun none room =
       none = λ some more x e.
           let y : List ℕ = take (place + 1) rest ++ more in
           let same : take (length bytes - left + 1) bytes ++ more ≡ 1 ∷ (number_bytes len ++ y) =
-              ap (λ (k : ℕ). take k bytes ++ more) (omega arith) ∙ ap (λ (t : List ℕ). t ++ more) (front (place + 1)) ∙ ap (λ (t : List ℕ). 1 ∷ t) (append_assoc (number_bytes len) (take (place + 1) rest) more) in
+          ap (λ (k : ℕ). take k bytes ++ more) (omega arith) ∙ ap (λ (t : List ℕ). t ++ more) (front (place + 1)) ∙ ap (λ (t : List ℕ). 1 ∷ t) (append_assoc (number_bytes len) (take (place + 1) rest) more) in
           read_text len place rest more x small (room some) (omega arith) (none some) (sym (text_entry last (number_bytes len ++ y)) ∙ ap (entry_at last) (sym same) ∙ e);
     }
   where
@@ -148,7 +148,7 @@ text_stopped last len place left bytes rest small bytes-is sum begun none room =
             let read = reads_it (take len y) (Ok name) is in
             let front-len : length (take (place + 1) rest) ≡ place + 1 = omega (arith, length-take (place + 1) rest) in
             let parts : take len y ≡ take (place + 1) rest ++ take (len - (place + 1)) more =
-                ap (λ (k : ℕ). take k y) (omega (arith, front-len)) ∙ take-append-add (take (place + 1) rest) more (len - (place + 1)) in
+            ap (λ (k : ℕ). take k y) (omega (arith, front-len)) ∙ take-append-add (take (place + 1) rest) more (len - (place + 1)) in
             none (take (len - (place + 1)) more, name, read.0, sym parts ∙ read.1, omega (arith, length-take len y, ap length read.1))
 
 text_found_stops : (last : Bool) (bytes rest : List ℕ) (len left : ℕ) (r : Result (List ℕ) ℕ) → len < 2 ^ 16 → bytes ≡ 1 ∷ (number_bytes len ++ rest) → name_in (take len rest) ≡ r → text_found len rest r ≡ Err left → Stops (entry_at last) (EntrySpelled last) bytes left
@@ -176,14 +176,14 @@ text_found_stops last bytes rest len left (Err at) small bytes-is is e =
     let begun : TextBegins len (take place rest) = subst (TextBegins len) (take-take place len rest low) stop.begins in
     let inside : place < length (take len rest) → place + 1 ≤ len = λ lt. omega (arith, shorter) in
     rw left-is (text_stopped last len place (length rest - place) bytes rest small bytes-is (omega (arith, stop.within, length-take len rest)) begun
-        (λ some t. elim (cases_lt place (length (take len rest))) [
-          | inl lt ↦ stop.none lt (subst (TextBegins len) (sym (take-take (place + 1) len rest (inside lt))) t)
-          | inr ge ↦ long_text some ge stop.begins fault stop.within
-        ])
-        (λ some. elim (cases_lt place (length (take len rest))) [
-          | inl lt ↦ inside lt
-          | inr ge ↦ absurd (long_text some ge stop.begins fault stop.within)
-        ]))
+    (λ some t. elim (cases_lt place (length (take len rest))) [
+      | inl lt ↦ stop.none lt (subst (TextBegins len) (sym (take-take (place + 1) len rest (inside lt))) t)
+      | inr ge ↦ long_text some ge stop.begins fault stop.within
+    ])
+    (λ some. elim (cases_lt place (length (take len rest))) [
+      | inl lt ↦ inside lt
+      | inr ge ↦ absurd (long_text some ge stop.begins fault stop.within)
+    ]))
   where
     -- a text that is there to its end, and begins one of so many bytes, is one
     long_text : {place : ℕ} → 0 < length rest - place → length (take len rest) ≤ place → TextBegins len (take place (take len rest)) → IsFault (take len rest) at → place ≤ length (take len rest) → ⊥
@@ -277,23 +277,38 @@ slots_stops (suc n) false bytes left fits narrowed e =
         let fill = fillers_fit n (is_wide entry) (λ none. s.begins.1.2 (ap (λ (k : ℕ). k == 0) none)) in
         record {
           within = s.within;
-          begins = (s.begins.0 ++ flat_map entry_bytes rest, (entry ∷ rest, (s.begins.1.1, fill.0), ap suc fill.1,
-            sym (append_assoc (take (length bytes - left) bytes) s.begins.0 (flat_map entry_bytes rest)) ∙ ap (λ (t : List ℕ). t ++ flat_map entry_bytes rest) s.begins.1.3 ∙ sym (flat_map-cons entry_bytes entry rest)));
+          begins = (
+            s.begins.0 ++ flat_map entry_bytes rest,
+            (
+              entry ∷ rest,
+              (s.begins.1.1, fill.0),
+              ap suc fill.1,
+              sym (append_assoc (take (length bytes - left) bytes) s.begins.0 (flat_map entry_bytes rest)) ∙ ap (λ (t : List ℕ). t ++ flat_map entry_bytes rest) s.begins.1.3 ∙ sym (flat_map-cons entry_bytes entry rest),
+            ),
+          );
           none = λ some more x h.
               let b = bind_ok (entry_at (n == 0) (take (length bytes - left + 1) bytes ++ more)) (λ entry. slots_in (is_wide entry.0) n entry.1 >>= λ others. Ok (entry.0 ∷ others.0, others.1)) x h in
               s.none some more b.0 b.1;
         }
+
     later : (entry : PoolEntry) (rest : List ℕ) → bytes ≡ entry_bytes entry ++ rest → IsEntry entry → ((n == 0) ≡ true → is_wide entry ≡ false) → Stops (slots_in (is_wide entry) n) (SlotsSpelled (is_wide entry) n) rest left
         → Stops (slots_in false (suc n)) (SlotsSpelled false (suc n)) bytes left
     later entry rest is fit narrow_last s = record {
       within = omega (arith, s.within, ap length is, length-append (entry_bytes entry) rest);
-      begins = (s.begins.0, (entry ∷ s.begins.1.0, (fit, s.begins.1.1), ap suc s.begins.1.2,
-        ap (λ (t : List ℕ). t ++ s.begins.0) (front_behind (entry_bytes entry) rest bytes left s.within is) ∙ append_assoc (entry_bytes entry) (take (length rest - left) rest) s.begins.0
-        ∙ ap (λ (t : List ℕ). entry_bytes entry ++ t) s.begins.1.3 ∙ sym (flat_map-cons entry_bytes entry s.begins.1.0)));
+      begins = (
+        s.begins.0,
+        (
+          entry ∷ s.begins.1.0,
+          (fit, s.begins.1.1),
+          ap suc s.begins.1.2,
+          ap (λ (t : List ℕ). t ++ s.begins.0) (front_behind (entry_bytes entry) rest bytes left s.within is) ∙ append_assoc (entry_bytes entry) (take (length rest - left) rest) s.begins.0
+              ∙ ap (λ (t : List ℕ). entry_bytes entry ++ t) s.begins.1.3 ∙ sym (flat_map-cons entry_bytes entry s.begins.1.0),
+        ),
+      );
       none = λ some more x h.
           let y : List ℕ = take (length rest - left + 1) rest ++ more in
           let same : take (length bytes - left + 1) bytes ++ more ≡ entry_bytes entry ++ y =
-              ap (λ (t : List ℕ). t ++ more) (take_behind (entry_bytes entry) rest bytes left 1 s.within is) ∙ append_assoc (entry_bytes entry) (take (length rest - left + 1) rest) more in
+          ap (λ (t : List ℕ). t ++ more) (take_behind (entry_bytes entry) rest bytes left 1 s.within is) ∙ append_assoc (entry_bytes entry) (take (length rest - left + 1) rest) more in
           let a = bind_ok (entry_at (n == 0) (take (length bytes - left + 1) bytes ++ more)) (λ entry. slots_in (is_wide entry.0) n entry.1 >>= λ others. Ok (entry.0 ∷ others.0, others.1)) x h in
           let first : (entry, y) ≡ a.0 = ok_is (entry, y) a.0 (sym (entry_again (n == 0) entry y fit narrow_last) ∙ ap (entry_at (n == 0)) (sym same) ∙ a.1) in
           let b = bind_ok (slots_in (is_wide a.0.0) n a.0.1) (λ others. Ok (a.0.0 ∷ others.0, others.1)) x a.2 in
@@ -310,9 +325,14 @@ count_short [] fits lt = (pool_bytes [], ([], (lit< tt, refl), refl))
 count_short (c ∷ []) fits lt =
     let b = number_back (c ∷ 1 ∷ []) refl (λ i. two_bytes i) in
     let fill = fillers_fit (256 * c) false (λ _. refl) in
-    let count : length (fillers false (256 * c)) + 1 ≡ number (c ∷ 1 ∷ []) = omega (arith, fill.1) in
-    (1 ∷ flat_map entry_bytes (fillers false (256 * c)), (fillers false (256 * c), (omega (arith, count, b.1), fill.0),
-      ap (λ (t : List ℕ). t ++ flat_map entry_bytes (fillers false (256 * c))) (sym b.0 ∙ ap number_bytes (sym count))))
+    let count : length (fillers false (256 * c)) + 1 ≡ number (c ∷ 1 ∷ []) = omega (arith, fill.1) in (
+      1 ∷ flat_map entry_bytes (fillers false (256 * c)),
+      (
+        fillers false (256 * c),
+        (omega (arith, count, b.1), fill.0),
+        ap (λ (t : List ℕ). t ++ flat_map entry_bytes (fillers false (256 * c))) (sym b.0 ∙ ap number_bytes (sym count)),
+      ),
+    )
   where
     two_bytes : (i : ℕ) → get_or (c ∷ 1 ∷ []) i 0 < 256
     two_bytes zero = fits 0
@@ -359,13 +379,19 @@ pool_stops bytes left fits e = elim (bind_err (fixed 2 number bytes) (λ count. 
         let count : length s.begins.1.0 + 1 ≡ n = omega (arith, s.begins.1.2, some_slots) in
         record {
           within = omega (arith, s.within, ap length is, length-append (number_bytes n) rest);
-          begins = (s.begins.0, (s.begins.1.0, (omega (arith, count), s.begins.1.1),
-            ap (λ (t : List ℕ). t ++ s.begins.0) (front_behind (number_bytes n) rest bytes left s.within is) ∙ append_assoc (number_bytes n) (take (length rest - left) rest) s.begins.0
-            ∙ ap (λ (t : List ℕ). number_bytes n ++ t) s.begins.1.3 ∙ ap (λ (k : ℕ). number_bytes k ++ flat_map entry_bytes s.begins.1.0) (sym count)));
+          begins = (
+            s.begins.0,
+            (
+              s.begins.1.0,
+              (omega (arith, count), s.begins.1.1),
+              ap (λ (t : List ℕ). t ++ s.begins.0) (front_behind (number_bytes n) rest bytes left s.within is) ∙ append_assoc (number_bytes n) (take (length rest - left) rest) s.begins.0
+                  ∙ ap (λ (t : List ℕ). number_bytes n ++ t) s.begins.1.3 ∙ ap (λ (k : ℕ). number_bytes k ++ flat_map entry_bytes s.begins.1.0) (sym count),
+            ),
+          );
           none = λ some more x h.
               let y : List ℕ = take (length rest - left + 1) rest ++ more in
               let same : take (length bytes - left + 1) bytes ++ more ≡ number_bytes n ++ y =
-                  ap (λ (t : List ℕ). t ++ more) (take_behind (number_bytes n) rest bytes left 1 s.within is) ∙ append_assoc (number_bytes n) (take (length rest - left + 1) rest) more in
+              ap (λ (t : List ℕ). t ++ more) (take_behind (number_bytes n) rest bytes left 1 s.within is) ∙ append_assoc (number_bytes n) (take (length rest - left + 1) rest) more in
               s.none some more x (sym (counted n y small zero_is) ∙ ap pool_at (sym same) ∙ h);
         }
 
@@ -377,8 +403,15 @@ layout_fault bytes left fits e =
     record {
       within = omega arith;
       no_pool = λ starts. let never : ◌≡◌ {A = Result (List PoolEntry × List ℕ) ℕ} (Ok (starts.0, starts.1)) (Err left) = sym (pool_again starts.0 starts.1 starts.2) ∙ ap pool_at (sym starts.3) ∙ e in absurd cc;
-      begins = λ k le. (drop k (take at bytes) ++ s.begins.0, (s.begins.1.0, [], s.begins.1.1,
-        sym (append_assoc (take k bytes) (drop k (take at bytes)) s.begins.0) ∙ ap (λ (t : List ℕ). t ++ drop k (take at bytes) ++ s.begins.0) (sym (take-take k at bytes le))
-        ∙ ap (λ (t : List ℕ). t ++ s.begins.0) (take-append-drop k (take at bytes)) ∙ s.begins.1.2 ∙ sym (append-nil (pool_bytes s.begins.1.0))));
+      begins = λ k le. (
+        drop k (take at bytes) ++ s.begins.0,
+        (
+          s.begins.1.0,
+          [],
+          s.begins.1.1,
+          sym (append_assoc (take k bytes) (drop k (take at bytes)) s.begins.0) ∙ ap (λ (t : List ℕ). t ++ drop k (take at bytes) ++ s.begins.0) (sym (take-take k at bytes le))
+              ∙ ap (λ (t : List ℕ). t ++ s.begins.0) (take-append-drop k (take at bytes)) ∙ s.begins.1.2 ∙ sym (append-nil (pool_bytes s.begins.1.0)),
+        ),
+      );
       none = λ lt more. s.none (omega arith) more.0 (more.1.0, more.1.1) (ap pool_at more.1.3 ∙ pool_again more.1.0 more.1.1 more.1.2);
     }

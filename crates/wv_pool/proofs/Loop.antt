@@ -26,7 +26,7 @@ goes_on front wide count i bytes e after total lt h so_far =
     let k : count - i ≡ suc (count - i - 1) = omega arith in
     let j : count - i - 1 ≡ count - (i + 1) = omega arith in
     let one : with_front front (slots_in wide (count - i) bytes) ≡ with_front (front ++ e ∷ []) (slots_in (is_wide e) (count - (i + 1)) after) =
-        rw (k) (step front wide (count - i - 1) bytes e after h ∙ ap (λ (n : ℕ). with_front (front ++ e ∷ []) (slots_in (is_wide e) n after)) j) in
+    rw (k) (step front wide (count - i - 1) bytes e after h ∙ ap (λ (n : ℕ). with_front (front ++ e ∷ []) (slots_in (is_wide e) n after)) j) in
     sym one ∙ so_far
 
 fails : (f : ℕ) (front : List PoolEntry) (wide : Bool) (left : ℕ) (bytes : List ℕ) → slot_at wide (left == 0) bytes ≡ Err f → with_front front (slots_in wide (suc left) bytes) ≡ Err f

@@ -62,10 +62,10 @@ text_takes len bytes x (Ok name) fits small e h =
     let found = reads_it (take len bytes) (Ok name) e in
     let len-is : length (spelling name) ≡ len = omega (arith, length-take len bytes, ap length found.1) in
     let whole : 1 ∷ (number_bytes len ++ bytes) ≡ 1 ∷ (number_bytes (length (spelling name)) ++ spelling name) ++ drop len bytes =
-        ap (λ (t : List ℕ). 1 ∷ t)
-        (ap (λ (t : List ℕ). number_bytes len ++ t) (sym (take-append-drop len bytes) ∙ ap (λ (t : List ℕ). t ++ drop len bytes) found.1)
-        ∙ ap (λ (k : ℕ). number_bytes k ++ (spelling name ++ drop len bytes)) (sym len-is)
-        ∙ sym (append_assoc (number_bytes (length (spelling name))) (spelling name) (drop len bytes))) in
+    ap (λ (t : List ℕ). 1 ∷ t)
+    (ap (λ (t : List ℕ). number_bytes len ++ t) (sym (take-append-drop len bytes) ∙ ap (λ (t : List ℕ). t ++ drop len bytes) found.1)
+    ∙ ap (λ (k : ℕ). number_bytes k ++ (spelling name ++ drop len bytes)) (sym len-is)
+    ∙ sym (append_assoc (number_bytes (length (spelling name))) (spelling name) (drop len bytes))) in
     subst (λ (y : PoolEntry × List ℕ). (1 ∷ (number_bytes len ++ bytes) ≡ entry_bytes y.0 ++ y.1) × IsEntry y.0 × IsBytes y.1) g.1 (whole, (found.0, omega arith), IsBytes-drop len bytes fits)
 
 text_found_takes : (bytes : List ℕ) (x : PoolEntry × List ℕ) → IsBytes bytes → text_behind bytes ≡ Ok x → (1 ∷ bytes ≡ entry_bytes x.0 ++ x.1) × IsEntry x.0 × IsBytes x.1
@@ -182,7 +182,7 @@ slots_take (suc n) true bytes x fits narrow e =
     let others = slots_take n false bytes b.0 fits (λ _. refl) b.1 in
     let made : List PoolEntry × List ℕ = (entries.Unusable ∷ b.0.0, b.0.1) in
     subst (λ (y : List PoolEntry × List ℕ). Takes bytes (flat_map entry_bytes y.0) y.1 × AreSlots true y.0 × (length y.0 ≡ suc n)) (ok_is made x b.2)
-        (record { parts = others.0.parts ∙ ap (λ (t : List ℕ). t ++ b.0.1) (sym (flat_map-cons entry_bytes entries.Unusable b.0.0)); rest_fits = others.0.rest_fits }, (refl, others.1), ap suc others.2)
+    (record { parts = others.0.parts ∙ ap (λ (t : List ℕ). t ++ b.0.1) (sym (flat_map-cons entry_bytes entries.Unusable b.0.0)); rest_fits = others.0.rest_fits }, (refl, others.1), ap suc others.2)
 slots_take (suc n) false bytes x fits narrow e =
     let a = bind_ok (entry_at (n == 0) bytes) (λ entry. slots_in (is_wide entry.0) n entry.1 >>= λ others. Ok (entry.0 ∷ others.0, others.1)) x e in
     let b = bind_ok (slots_in (is_wide a.0.0) n a.0.1) (λ others. Ok (a.0.0 ∷ others.0, others.1)) x a.2 in
@@ -190,9 +190,9 @@ slots_take (suc n) false bytes x fits narrow e =
     let others = slots_take n (is_wide a.0.0) a.0.1 b.0 f.takes.rest_fits (λ none. f.narrow (ap (λ (k : ℕ). k == 0) none)) b.1 in
     let made : List PoolEntry × List ℕ = (a.0.0 ∷ b.0.0, b.0.1) in
     let whole : bytes ≡ flat_map entry_bytes (a.0.0 ∷ b.0.0) ++ b.0.1 =
-        f.takes.parts ∙ ap (λ (t : List ℕ). entry_bytes a.0.0 ++ t) others.0.parts ∙ sym (append_assoc (entry_bytes a.0.0) (flat_map entry_bytes b.0.0) b.0.1) ∙ ap (λ (t : List ℕ). t ++ b.0.1) (sym (flat_map-cons entry_bytes a.0.0 b.0.0)) in
+    f.takes.parts ∙ ap (λ (t : List ℕ). entry_bytes a.0.0 ++ t) others.0.parts ∙ sym (append_assoc (entry_bytes a.0.0) (flat_map entry_bytes b.0.0) b.0.1) ∙ ap (λ (t : List ℕ). t ++ b.0.1) (sym (flat_map-cons entry_bytes a.0.0 b.0.0)) in
     subst (λ (y : List PoolEntry × List ℕ). Takes bytes (flat_map entry_bytes y.0) y.1 × AreSlots false y.0 × (length y.0 ≡ suc n)) (ok_is made x b.2)
-        (record { parts = whole; rest_fits = others.0.rest_fits }, (f.entry, others.1), ap suc others.2)
+    (record { parts = whole; rest_fits = others.0.rest_fits }, (f.entry, others.1), ap suc others.2)
 
 last_narrow : (wide : Bool) (es : List PoolEntry) → AreSlots wide es → (length es == 0) ≡ true → wide ≡ false
 last_narrow wide [] h e = h
@@ -206,7 +206,7 @@ slots_again true (e ∷ es) rest h =
 slots_again false (e ∷ es) rest h =
     let regrouped : flat_map entry_bytes (e ∷ es) ++ rest ≡ entry_bytes e ++ (flat_map entry_bytes es ++ rest) = ap (λ (t : List ℕ). t ++ rest) (flat_map-cons entry_bytes e es) ∙ append_assoc (entry_bytes e) (flat_map entry_bytes es) rest in
     let one : entry_at (length es == 0) (flat_map entry_bytes (e ∷ es) ++ rest) ≡ Ok (e, flat_map entry_bytes es ++ rest) =
-        ap (entry_at (length es == 0)) regrouped ∙ entry_again (length es == 0) e (flat_map entry_bytes es ++ rest) h.0 (last_narrow (is_wide e) es h.1) in
+    ap (entry_at (length es == 0)) regrouped ∙ entry_again (length es == 0) e (flat_map entry_bytes es ++ rest) h.0 (last_narrow (is_wide e) es h.1) in
     ap (λ (r : Result (PoolEntry × List ℕ) ℕ). r >>= λ entry. slots_in (is_wide entry.0) (length es) entry.1 >>= λ others. Ok (entry.0 ∷ others.0, others.1)) one
     ∙ ap (λ (r : Result (List PoolEntry × List ℕ) ℕ). r >>= λ others. Ok (e ∷ others.0, others.1)) (slots_again (is_wide e) es rest h.1)
 
@@ -222,7 +222,7 @@ pool_takes bytes x fits e =
     let some : a.0.0 ≡ 0 → ⊥ = λ none. absurd (cc (sym g.0 ∙ ap (λ (k : ℕ). k == 0) none)) in
     let count : length x.0 + 1 ≡ a.0.0 = omega (arith, s.2, some) in
     let whole : bytes ≡ pool_bytes x.0 ++ x.1 =
-        t.0.parts ∙ ap (λ (r : List ℕ). number_bytes a.0.0 ++ r) s.0.parts ∙ sym (append_assoc (number_bytes a.0.0) (flat_map entry_bytes x.0) x.1) ∙ ap (λ (k : ℕ). number_bytes k ++ flat_map entry_bytes x.0 ++ x.1) (sym count) in
+    t.0.parts ∙ ap (λ (r : List ℕ). number_bytes a.0.0 ++ r) s.0.parts ∙ sym (append_assoc (number_bytes a.0.0) (flat_map entry_bytes x.0) x.1) ∙ ap (λ (k : ℕ). number_bytes k ++ flat_map entry_bytes x.0 ++ x.1) (sym count) in
     (record { parts = whole; rest_fits = s.0.rest_fits }, (omega (arith, count, t.1), s.1))
 
 pub pool_again : (pool : List PoolEntry) (rest : List ℕ) → IsLayout pool → pool_at (pool_bytes pool ++ rest) ≡ Ok (pool, rest)

@@ -137,8 +137,17 @@ cut (u ∷ name) front more is e = elim (part front more (unit_spelling u) (spel
   | inl p ↦ record { whole = []; open_ = front; tail = p.0; unit = u; is_name = tt; is_unit = is.0; front_is = refl; unit_is = p.1; some = p.2 }
   | inr p ↦
       let c = cut name p.0 more is.1 p.2 in
-      record { whole = u ∷ c.whole; open_ = c.open_; tail = c.tail; unit = c.unit; is_name = (is.0, c.is_name); is_unit = c.is_unit;
-        front_is = p.1 ∙ ap (λ (t : List ℕ). unit_spelling u ++ t) c.front_is ∙ sym (append_assoc (unit_spelling u) (spelling c.whole) c.open_); unit_is = c.unit_is; some = c.some }
+      record {
+        whole = u ∷ c.whole;
+        open_ = c.open_;
+        tail = c.tail;
+        unit = c.unit;
+        is_name = (is.0, c.is_name);
+        is_unit = c.is_unit;
+        front_is = p.1 ∙ ap (λ (t : List ℕ). unit_spelling u ++ t) c.front_is ∙ sym (append_assoc (unit_spelling u) (spelling c.whole) c.open_);
+        unit_is = c.unit_is;
+        some = c.some;
+      }
 ]
 
 -- the tests of the place
@@ -211,12 +220,12 @@ module _ (text : List ℕ) (len at : ℕ) (whole : List ℕ) (unit : ℕ) (tail 
   placed [] front len-is unit_is =
       let c = closed whole in
       let far : text_place text len at ≡ at = place_far text len at
-          (λ some. let b = c (at - 1) (omega (arith, len-is)) in
-              let e : get_or text (at - 1) 0 ≡ get_or (spelling whole) (at - 1) 0 = front_byte text (spelling whole) at (at - 1) (front ∙ append-nil (spelling whole)) (omega arith) in
-              elim (cases_lt (get_or text (at - 1) 0) 0xC0) [ inl low ↦ low | inr high ↦ absurd (omega (arith, b.0 (rw (← e) high), len-is)) ])
-          (λ some. let b = c (at - 2) (omega (arith, len-is)) in
-              let e : get_or text (at - 2) 0 ≡ get_or (spelling whole) (at - 2) 0 = front_byte text (spelling whole) at (at - 2) (front ∙ append-nil (spelling whole)) (omega arith) in
-              elim (cases_lt (get_or text (at - 2) 0) 0xE0) [ inl low ↦ low | inr high ↦ absurd (omega (arith, b.1 (rw (← e) high), len-is)) ]) in
+      (λ some. let b = c (at - 1) (omega (arith, len-is)) in
+      let e : get_or text (at - 1) 0 ≡ get_or (spelling whole) (at - 1) 0 = front_byte text (spelling whole) at (at - 1) (front ∙ append-nil (spelling whole)) (omega arith) in
+      elim (cases_lt (get_or text (at - 1) 0) 0xC0) [ inl low ↦ low | inr high ↦ absurd (omega (arith, b.0 (rw (← e) high), len-is)) ])
+      (λ some. let b = c (at - 2) (omega (arith, len-is)) in
+      let e : get_or text (at - 2) 0 ≡ get_or (spelling whole) (at - 2) 0 = front_byte text (spelling whole) at (at - 2) (front ∙ append-nil (spelling whole)) (omega arith) in
+      elim (cases_lt (get_or text (at - 2) 0) 0xE0) [ inl low ↦ low | inr high ↦ absurd (omega (arith, b.1 (rw (← e) high), len-is)) ]) in
       inl (far, inl refl)
   placed (a ∷ []) front len-is unit_is =
       let last : get_or text (at - 1) 0 ≡ a = front_byte text (spelling whole ++ a ∷ []) at (at - 1) front (omega arith) ∙ ap (λ (i : ℕ). get_or (spelling whole ++ a ∷ []) i 0) (omega arith) ∙ get_or-append_seam (spelling whole) a [] 0 in
@@ -225,9 +234,9 @@ module _ (text : List ℕ) (len at : ℕ) (whole : List ℕ) (unit : ℕ) (tail 
   placed (a ∷ b ∷ []) front len-is unit_is =
       let second_is : spelling whole ++ a ∷ b ∷ [] ≡ (spelling whole ++ a ∷ []) ++ b ∷ [] = sym (append_assoc (spelling whole) (a ∷ []) (b ∷ [])) in
       let last : get_or text (at - 1) 0 ≡ b = front_byte text ((spelling whole ++ a ∷ []) ++ b ∷ []) at (at - 1) (front ∙ second_is) (omega arith)
-          ∙ ap (λ (i : ℕ). get_or ((spelling whole ++ a ∷ []) ++ b ∷ []) i 0) (omega (arith, length-append (spelling whole) (a ∷ []))) ∙ get_or-append_seam (spelling whole ++ a ∷ []) b [] 0 in
+      ∙ ap (λ (i : ℕ). get_or ((spelling whole ++ a ∷ []) ++ b ∷ []) i 0) (omega (arith, length-append (spelling whole) (a ∷ []))) ∙ get_or-append_seam (spelling whole ++ a ∷ []) b [] 0 in
       let previous : get_or text (at - 2) 0 ≡ a = front_byte text (spelling whole ++ a ∷ b ∷ []) at (at - 2) front (omega arith)
-          ∙ ap (λ (i : ℕ). get_or (spelling whole ++ a ∷ b ∷ []) i 0) (omega arith) ∙ get_or-append_seam (spelling whole) a (b ∷ []) 0 in
+      ∙ ap (λ (i : ℕ). get_or (spelling whole ++ a ∷ b ∷ []) i 0) (omega arith) ∙ get_or-append_seam (spelling whole) a (b ∷ []) 0 in
       let w : Where text len at (length (spelling whole)) (suc (suc (length tail))) = two_open text len at a b (length (spelling whole)) tail len-is previous last some (subst UnitForm (sym unit_is) (unit_form unit)) in
       settle w (ap length unit_is) (omega arith)
   placed (a ∷ b ∷ c ∷ open_) front len-is unit_is =
@@ -254,7 +263,7 @@ filled_open len name open_ tail unit is is_unit unit_is le =
     let one : spelling (name ++ unit ∷ []) ≡ spelling name ++ unit_spelling unit = flat_map-append unit_spelling name (unit ∷ []) ∙ ap (λ (t : List ℕ). spelling name ++ t) (append-nil (unit_spelling unit)) in
     let f = filled len (name ++ unit ∷ []) (IsName-append name (unit ∷ []) is (is_unit, tt)) (omega (arith, ap length one, length-append (spelling name) (unit_spelling unit))) in
     let regrouped : (spelling name ++ open_) ++ (tail ++ f.0) ≡ spelling (name ++ unit ∷ []) ++ f.0 =
-        sym (append_assoc (spelling name ++ open_) tail f.0) ∙ ap (λ (t : List ℕ). t ++ f.0) (append_assoc (spelling name) open_ tail ∙ ap (λ (t : List ℕ). spelling name ++ t) unit_is ∙ sym one) in
+    sym (append_assoc (spelling name ++ open_) tail f.0) ∙ ap (λ (t : List ℕ). t ++ f.0) (append_assoc (spelling name) open_ tail ∙ ap (λ (t : List ℕ). spelling name ++ t) unit_is ∙ sym one) in
     (tail ++ f.0, f.1, f.2, regrouped ∙ f.3, f.4)
 
 -- a unit that begins so has no room
@@ -297,12 +306,14 @@ text_stops len text at le fault =
     stays : (c : Cut (take at text)) → (c.open_ ≡ []) ⊎ (there c + length (unit_spelling c.unit) ≤ len) → there c ≤ len → TextBegins len (take at text)
     stays c (inl none) small = subst (λ (t : List ℕ). TextBegins len t) (sym (c.front_is ∙ ap (λ (t : List ℕ). spelling c.whole ++ t) none ∙ append-nil (spelling c.whole))) (filled len c.whole c.is_name small)
     stays c (inr fits) small = subst (λ (t : List ℕ). TextBegins len t) (sym c.front_is) (filled_open len c.whole c.open_ c.tail c.unit c.is_name c.is_unit c.unit_is fits)
+
     first : (c : Cut (take at text)) (open_ : List ℕ) → c.open_ ≡ open_ → 0 < length open_ → at ≡ there c + length c.open_ → len < there c + length (unit_spelling c.unit) → TextBegins len (take (there c + 1) text) → ⊥
     first c [] e some at-is few t = omega arith
     first c (a ∷ open_) e some at-is few t =
         let front : take (there c + 1) text ≡ spelling c.whole ++ a ∷ [] =
-            sym (take-take (there c + 1) at text (omega (arith, ap length e))) ∙ ap (λ (t : List ℕ). take (there c + 1) t) (c.front_is ∙ ap (λ (t : List ℕ). spelling c.whole ++ t) e) ∙ take-append-add (spelling c.whole) (a ∷ open_) 1 in
+        sym (take-take (there c + 1) at text (omega (arith, ap length e))) ∙ ap (λ (t : List ℕ). take (there c + 1) t) (c.front_is ∙ ap (λ (t : List ℕ). spelling c.whole ++ t) e) ∙ take-append-add (spelling c.whole) (a ∷ open_) 1 in
         crowded len c.whole a (open_ ++ c.tail) c.unit c.is_name (ap (λ (t : List ℕ). t ++ c.tail) (sym e) ∙ c.unit_is) few (subst (λ (x : List ℕ). TextBegins len x) front t)
+
     go : (c : Cut (take at text)) → at ≡ there c + length c.open_ → Placed text len at c.whole c.unit c.tail fault.within c.some c.open_ → TextStops len text (text_place text len at)
     go c at-is (inl p) = rw p.0 (record {
       within = fault.within;
@@ -311,7 +322,7 @@ text_stops len text at le fault =
     })
     go c at-is (inr p) =
         let front : take (there c) text ≡ spelling c.whole =
-            sym (take-take (there c) at text (omega arith)) ∙ ap (λ (t : List ℕ). take (there c) t) c.front_is ∙ take_at (spelling c.whole) c.open_ (there c) refl in
+        sym (take-take (there c) at text (omega arith)) ∙ ap (λ (t : List ℕ). take (there c) t) c.front_is ∙ take_at (spelling c.whole) c.open_ (there c) refl in
         rw p.0 (record {
           within = omega (arith, at-is, fault.within);
           begins = subst (λ (t : List ℕ). TextBegins len t) (sym front) (filled len c.whole c.is_name (omega (arith, at-is, fault.within)));

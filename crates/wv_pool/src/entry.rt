@@ -38,7 +38,10 @@ fn u32_at(bytes: &[u8]) -> Result<(u32, &[u8]), Stop>
         return Err(Stop::Left(0));
     }
     let (front, rest) = bytes.split_at(4);
-    Ok((u32::from_be_bytes([front[0], front[1], front[2], front[3]]), rest))
+    Ok((
+        u32::from_be_bytes([front[0], front[1], front[2], front[3]]),
+        rest,
+    ))
 }
 
 fn i32_at(bytes: &[u8]) -> Result<(i32, &[u8]), Stop>
@@ -48,7 +51,10 @@ fn i32_at(bytes: &[u8]) -> Result<(i32, &[u8]), Stop>
         return Err(Stop::Left(0));
     }
     let (front, rest) = bytes.split_at(4);
-    Ok((i32::from_be_bytes([front[0], front[1], front[2], front[3]]), rest))
+    Ok((
+        i32::from_be_bytes([front[0], front[1], front[2], front[3]]),
+        rest,
+    ))
 }
 
 fn u64_at(bytes: &[u8]) -> Result<(u64, &[u8]), Stop>
@@ -97,13 +103,31 @@ fn reference_behind(tag: u8, bytes: &[u8]) -> Result<(PoolEntry, &[u8]), Stop>
         7 => u16_at(bytes).map(|(name, rest)| (PoolEntry::Class { name }, rest)),
         8 => u16_at(bytes).map(|(text, rest)| (PoolEntry::String { text }, rest)),
         9 => pair_at(bytes).map(|((class, name_and_type), rest)| {
-            (PoolEntry::Field { class, name_and_type }, rest)
+            (
+                PoolEntry::Field {
+                    class,
+                    name_and_type,
+                },
+                rest,
+            )
         }),
         10 => pair_at(bytes).map(|((class, name_and_type), rest)| {
-            (PoolEntry::Method { class, name_and_type }, rest)
+            (
+                PoolEntry::Method {
+                    class,
+                    name_and_type,
+                },
+                rest,
+            )
         }),
         11 => pair_at(bytes).map(|((class, name_and_type), rest)| {
-            (PoolEntry::InterfaceMethod { class, name_and_type }, rest)
+            (
+                PoolEntry::InterfaceMethod {
+                    class,
+                    name_and_type,
+                },
+                rest,
+            )
         }),
         12 => pair_at(bytes).map(|((name, descriptor), rest)| {
             (PoolEntry::NameAndType { name, descriptor }, rest)
@@ -113,7 +137,13 @@ fn reference_behind(tag: u8, bytes: &[u8]) -> Result<(PoolEntry, &[u8]), Stop>
         }),
         16 => u16_at(bytes).map(|(descriptor, rest)| (PoolEntry::MethodType { descriptor }, rest)),
         18 => pair_at(bytes).map(|((bootstrap, name_and_type), rest)| {
-            (PoolEntry::InvokeDynamic { bootstrap, name_and_type }, rest)
+            (
+                PoolEntry::InvokeDynamic {
+                    bootstrap,
+                    name_and_type,
+                },
+                rest,
+            )
         }),
         _ => Err(Stop::Left(bytes.len() + 1)),
     }

@@ -116,9 +116,7 @@ fn is_member(pool: &[PoolEntry], number: u16) -> bool
 {
     matches!(
         entry_of(pool, number),
-        Some(
-            PoolEntry::Field { .. } | PoolEntry::Method { .. } | PoolEntry::InterfaceMethod { .. }
-        )
+        Some(PoolEntry::Field { .. } | PoolEntry::Method { .. } | PoolEntry::InterfaceMethod { .. })
     )
 }
 

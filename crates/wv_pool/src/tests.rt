@@ -34,12 +34,22 @@ fn the_smallest_pool(rt: HostRuntime) -> Result<(), Fail> {
     let (pool, len) = read_pool(rt.alloc(), &SMALLEST)?;
     assert_eq!(rt; len, 35);
     assert_eq!(rt; pool.entries().len(), 4);
-    assert!(rt; pool.class_name(1).is_some_and(|name| name.is_ascii("app/E")));
-    assert!(rt; pool.class_name(3).is_some_and(|name| name.is_ascii("java/lang/Object")));
+    assert!(rt;
+        pool.class_name(1)
+            .is_some_and(|name| name.is_ascii("app/E"))
+    );
+    assert!(rt;
+        pool.class_name(3)
+            .is_some_and(|name| name.is_ascii("java/lang/Object"))
+    );
     assert!(rt; pool.class_name(2).is_none() && pool.class_name(0).is_none());
     assert_eq!(rt; pool.write(rt.alloc())?.as_slice(), &SMALLEST[..35]);
     for end in 0..35 {
-        assert_eq!(rt; fault(rt.alloc(), &SMALLEST[..end]), Some(Ok(end)), "cut at {end}");
+        assert_eq!(rt;
+            fault(rt.alloc(), &SMALLEST[..end]),
+            Some(Ok(end)),
+            "cut at {end}"
+        );
     }
     Ok(())
 }
@@ -54,9 +64,16 @@ fn each_tag(rt: HostRuntime) -> Result<(), Fail> {
     assert!(rt; matches!(pool.entry(9), Some(PoolEntry::Unusable)));
     assert!(rt; matches!(pool.entry(10), Some(PoolEntry::Double(1))));
     assert!(rt; matches!(pool.entry(12), Some(PoolEntry::String { text: 1 })));
-    assert!(rt; pool.name_and_type(18).is_some_and(|(_, descriptor)| descriptor.is_ascii("I")));
+    assert!(rt;
+        pool.name_and_type(18)
+            .is_some_and(|(_, descriptor)| descriptor.is_ascii("I"))
+    );
     for end in 0..len.min(EACH.len()) {
-        assert_eq!(rt; fault(rt.alloc(), &EACH[..end]), Some(Ok(end)), "cut at {end}");
+        assert_eq!(rt;
+            fault(rt.alloc(), &EACH[..end]),
+            Some(Ok(end)),
+            "cut at {end}"
+        );
     }
     Ok(())
 }
@@ -87,8 +104,20 @@ fn faults(rt: HostRuntime) {
         (&[0, 4, 8, 0, 3, 5, 0, 0, 0, 0, 0, 0, 0, 0], Err(3)),
         // A class's name, a field's pair that has a method's descriptor, a method's name with `<`.
         (&[0, 3, 7, 0, 2, 1, 0, 1, 0x2E], Err(3)),
-        (&[0, 6, 9, 0, 2, 0, 4, 7, 0, 3, 1, 0, 1, 0x6D, 12, 0, 3, 0, 5, 1, 0, 3, 0x28, 0x29, 0x56], Err(5)),
-        (&[0, 7, 10, 0, 2, 0, 4, 7, 0, 3, 1, 0, 1, 0x6D, 12, 0, 6, 0, 5, 1, 0, 3, 0x28, 0x29, 0x56, 1, 0, 1, 0x3C], Err(5)),
+        (
+            &[
+                0, 6, 9, 0, 2, 0, 4, 7, 0, 3, 1, 0, 1, 0x6D, 12, 0, 3, 0, 5, 1, 0, 3, 0x28, 0x29,
+                0x56,
+            ],
+            Err(5),
+        ),
+        (
+            &[
+                0, 7, 10, 0, 2, 0, 4, 7, 0, 3, 1, 0, 1, 0x6D, 12, 0, 6, 0, 5, 1, 0, 3, 0x28, 0x29,
+                0x56, 1, 0, 1, 0x3C,
+            ],
+            Err(5),
+        ),
         // A handle's kind, and a handle of no member.
         (&[0, 3, 15, 0, 0, 2, 1, 0, 0], Err(3)),
         (&[0, 3, 15, 1, 0, 2, 1, 0, 0], Err(4)),

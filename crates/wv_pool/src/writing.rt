@@ -48,20 +48,28 @@ fn put_entry(alloc: Global, out: &mut Vec<u8>, entry: &PoolEntry) -> Result<(), 
         PoolEntry::Double(bits) => put_bytes(out, 6, &bits.to_be_bytes()),
         PoolEntry::Class { name } => put_bytes(out, 7, &name.to_be_bytes()),
         PoolEntry::String { text } => put_bytes(out, 8, &text.to_be_bytes()),
-        PoolEntry::Field { class, name_and_type } => put_numbers(out, 9, *class, *name_and_type),
-        PoolEntry::Method { class, name_and_type } => put_numbers(out, 10, *class, *name_and_type),
-        PoolEntry::InterfaceMethod { class, name_and_type } => {
-            put_numbers(out, 11, *class, *name_and_type)
-        }
+        PoolEntry::Field {
+            class,
+            name_and_type,
+        } => put_numbers(out, 9, *class, *name_and_type),
+        PoolEntry::Method {
+            class,
+            name_and_type,
+        } => put_numbers(out, 10, *class, *name_and_type),
+        PoolEntry::InterfaceMethod {
+            class,
+            name_and_type,
+        } => { put_numbers(out, 11, *class, *name_and_type) }
         PoolEntry::NameAndType { name, descriptor } => put_numbers(out, 12, *name, *descriptor),
         PoolEntry::MethodHandle { kind, reference } => {
             out.push(15)?;
             put_bytes(out, *kind, &reference.to_be_bytes())
         }
         PoolEntry::MethodType { descriptor } => put_bytes(out, 16, &descriptor.to_be_bytes()),
-        PoolEntry::InvokeDynamic { bootstrap, name_and_type } => {
-            put_numbers(out, 18, *bootstrap, *name_and_type)
-        }
+        PoolEntry::InvokeDynamic {
+            bootstrap,
+            name_and_type,
+        } => { put_numbers(out, 18, *bootstrap, *name_and_type) }
         PoolEntry::Unusable => Ok(()),
     }
 }

@@ -10,7 +10,7 @@ next-after_all paths files i path ascending so_far lt here k d within =
     let count : length files ≡ length (take i paths) = sym (length-map files (λ (file : File). file.0)) ∙ ap length so_far in
     let before : k < i = omega (arith, length-take i paths) in
     let this : (get_or files k d).0 ≡ get_or paths k d.0 =
-        sym (get_or-map (λ (file : File). file.0) files k d d.0 within) ∙ ap (λ (l : List (List ℕ)). get_or l k d.0) so_far ∙ get_or-take i paths k d.0 before in
+    sym (get_or-map (λ (file : File). file.0) files k d d.0 within) ∙ ap (λ (l : List (List ℕ)). get_or l k d.0) so_far ∙ get_or-take i paths k d.0 before in
     let next : get_or paths i d.0 ≡ path = get_or_default paths i d.0 path lt ∙ sym here in
     subst (λ (p : List ℕ). IsPathBefore p path) (sym this) (subst (λ (p : List ℕ). IsPathBefore (get_or paths k d.0) p) next (ascending k i d.0 before lt))
 

@@ -1,6 +1,10 @@
 -- How a call of the loader ends (our own).
 use Rattle.std.specs.Prelude.{◌≡◌, ⊤, ◌⊎◌, ℕ, List, Option, Some, None}
 use Rattle.wv_tree.specs.Fault.{Rises}
+use Rattle.wv_tree.specs.Sink.{with_bytes}
+use Rattle.wv_base.specs.Line.{refusal}
+use Rattle.wv_base.specs.declared.broken.Broken.{Broken}
+use Rattle.wv_top.specs.Lines.{usage_line, summary_line}
 use Rattle.wv_top.specs.Words.{Command}
 use Rattle.wv_top.specs.declared.status.Status.{Status}
 use Rattle.wv_top.specs.declared.status.Status.TheVariants.{Done, Refused, Usage, ReadFault, WriteFault, Memory}
@@ -47,3 +51,12 @@ KeepsOutlet ReadFault outlet now = now ≡ outlet
 KeepsOutlet Done outlet now = ⊤
 KeepsOutlet WriteFault outlet now = ⊤
 KeepsOutlet Memory outlet now = ⊤
+
+-- what is told of the sink's content: the line of the status, and nothing where reading fails
+abbrev pub Prints : Status → Option (List ℕ) → Option (List ℕ) → Type 0
+Prints Usage before now = now ≡ with_bytes usage_line before
+Prints Refused before now = (broken : Broken) × (now ≡ with_bytes (refusal broken) before)
+Prints Done before now = (written edited mixins hooks : ℕ) × (now ≡ with_bytes (summary_line written edited mixins hooks) before)
+Prints ReadFault before now = now ≡ before
+Prints WriteFault before now = ⊤
+Prints Memory before now = now ≡ before

@@ -1,6 +1,12 @@
 -- What the program prints (our own).
-use Rattle.std.specs.Prelude.{ℕ, List, codes}
+use Rattle.std.specs.Prelude.{ℕ, List, ◌++◌, codes, decimal}
 
 -- how the program is called
 unfoldable pub usage_line : List ℕ
 usage_line = codes "usage: loader weave|run|list FOLDER [options] | gen NUMBER SIZE --out DIR\n"
+
+-- how many classes were written and edited, how many mixins were applied, and how many hooks they have
+unfoldable pub summary_line : ℕ → ℕ → ℕ → ℕ → List ℕ
+summary_line written edited mixins hooks =
+    codes "woven " ++ decimal written ++ codes " classes, " ++ decimal edited ++ codes " edited, " ++ decimal mixins
+    ++ codes " mixins, " ++ decimal hooks ++ codes " hooks\n"

@@ -9,5 +9,5 @@ mod summary;
 mod top;
 mod words;
 
-pub use top::loader;
 pub use status::Status;
+pub use top::loader;

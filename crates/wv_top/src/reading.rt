@@ -30,12 +30,7 @@ pub(crate) struct Reading {
 impl Allowance {
     /// The bytes of the next file, none where it doesn't count as read. One byte more than what is
     /// left is asked for, so that the limit is seen to be passed without reading on.
-    fn read<T: Tree>(
-        &mut self,
-        alloc: Global,
-        tree: &mut T,
-        path: &str,
-    ) -> Result<Vec<u8>, IoFault>
+    fn read<T: Tree>(&mut self, alloc: Global, tree: &mut T, path: &str) -> Result<Vec<u8>, IoFault>
         ensures cause { HasCause result (T.faults tree.old) (T.faults tree.new) }
     {
         if self.passed.is_some() || !is_read(path) {
@@ -52,11 +47,7 @@ impl Allowance {
     }
 }
 
-fn read_files<T: Tree>(
-    alloc: Global,
-    tree: &mut T,
-    paths: &[String],
-) -> Result<Reading, IoFault>
+fn read_files<T: Tree>(alloc: Global, tree: &mut T, paths: &[String]) -> Result<Reading, IoFault>
     requires { IsAscending (map string_bytes paths.now) }
     ensures cause { HasCause result (T.faults tree.old) (T.faults tree.new) }
 {
@@ -67,7 +58,10 @@ fn read_files<T: Tree>(
     let mut folder = Folder::new(alloc);
     for path in paths {
         let bytes = allowance.read(alloc, tree, path.as_str())?;
-        folder.push(Text::from_str(alloc, path.as_str())?, Bytes::from_vec(bytes))?;
+        folder.push(
+            Text::from_str(alloc, path.as_str())?,
+            Bytes::from_vec(bytes),
+        )?;
     }
     Ok(Reading {
         folder,

@@ -1,17 +1,33 @@
 //! The line that sums up a weave.
-ghost use Rattle.std.specs.Prelude.{◌<◌, IfOk, string_len};
+ghost use Rattle.std.specs.Prelude.{◌≡◌, ◌<◌, ◌++◌, length, decimal, OnOk, IfOk, string_bytes, string_len};
+ghost use Rattle.wv_top.specs.Lines.{summary_line};
 
+use itoa::Buffer;
 use std::alloc::{AllocError, Global};
 use wv_weave::Woven;
 
+/// Adds a text and a count behind it.
+fn push_count(line: &mut String, text: &str, count: usize) -> Result<(), AllocError>
+    ensures { OnOk result (string_bytes line.new ≡ string_bytes line.old ++ text.now ++ decimal count) }
+{
+    let mut buffer = Buffer::new();
+    line.push_str(text)?;
+    line.push_str(buffer.format(count))
+}
+
 /// How many classes were written and edited, how many mixins were applied, and how many hooks they
 /// have.
+#[tactic(auto, unfolding(crate::specs::Lines::summary_line))]
 pub(crate) fn summary_line(alloc: Global, woven: &Woven) -> Result<String, AllocError>
-    ensures { IfOk result (λ line. 0 < string_len line) }
+    ensures line { IfOk result (λ line. string_bytes line
+        ≡ summary_line (length woven.now.files) woven.now.edited woven.now.mixins woven.now.hooks) }
+    ensures some { IfOk result (λ line. 0 < string_len line) }
 {
-    let written = woven.files.len();
-    let edited = woven.edited;
-    let mixins = woven.mixins;
-    let hooks = woven.hooks;
-    format!(in alloc; "woven {written} classes, {edited} edited, {mixins} mixins, {hooks} hooks\n")
+    let mut line = String::new(alloc);
+    push_count(&mut line, "woven ", woven.files.len())?;
+    push_count(&mut line, " classes, ", woven.edited as usize)?;
+    push_count(&mut line, " edited, ", woven.mixins as usize)?;
+    push_count(&mut line, " mixins, ", woven.hooks as usize)?;
+    line.push_str(" hooks\n")?;
+    Ok(line)
 }

@@ -1,7 +1,8 @@
 //! The top call.
 ghost use Rattle.std.specs.Prelude.{◌≡◌, OnErr};
 ghost use Rattle.wv_top.specs.Words.{command_of, texts};
-ghost use Rattle.wv_top.specs.Ends.{FitsWords, TellsReading, TellsWriting, KeepsOutlet};
+ghost use Rattle.wv_top.specs.Puts.{Puts};
+ghost use Rattle.wv_top.specs.Ends.{FitsWords, TellsReading, TellsWriting, KeepsOutlet, Prints};
 
 use crate::put::put_files;
 use crate::reading::read_folder;
@@ -31,6 +32,8 @@ pub fn loader<T: Tree, O: Outlet, S: Sink>(
     ensures reading { TellsReading result (T.faults tree.old) (T.faults tree.new) }
     ensures writing { TellsWriting result (O.faults outlet.old) (O.faults outlet.new) (S.faults sink.old) (S.faults sink.new) }
     ensures outlet { KeepsOutlet result outlet.old outlet.new }
+    ensures puts { Puts (command_of (texts words.now)) result (O.told outlet.old) (O.told outlet.new) }
+    ensures printed { Prints result (S.told sink.old) (S.told sink.new) }
 {
     let Some(command) = command_of(words) else {
         return match sink.write(USAGE) {

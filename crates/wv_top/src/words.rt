@@ -29,8 +29,7 @@ pub(crate) fn command_of(words: &[String]) -> Option<Command<'_>>
             if weave.as_str() == "weave"
                 && is_operand(folder.as_str())
                 && option.as_str() == "--out"
-                && is_operand(out.as_str()) =>
-        {
+                && is_operand(out.as_str()) => {
             Some(Command {
                 folder: folder.as_str(),
                 out: out.as_str(),

@@ -1,7 +1,9 @@
 -- Why a call of the outside failed: the object's own count of faults tells. Our own.
-use Rattle.std.specs.Prelude.{◌≡◌, ℕ, ◌-◌, ◌≤◌, ◌^◌, Result, Ok, Err}
+use Rattle.std.specs.Prelude.{◌≡◌, ◌≢◌, ℕ, ◌-◌, ◌≤◌, ◌^◌, Result, Ok, Err}
 use Rattle.wv_tree.specs.declared.fault.IoFault.{IoFault}
 use Rattle.wv_tree.specs.declared.fault.IoFault.TheVariants.{Failed, Memory}
+use Rattle.std.specs.declared.io.ErrorKind.{ErrorKind}
+use Rattle.std.specs.declared.io.ErrorKind.TheVariants.{OutOfMemory}
 use Rattle.wv_tree.specs.declared.fault.SinkFault.{SinkFault}
 
 -- the count rose, or stands at the last value that a counter has
@@ -19,3 +21,8 @@ HasCause (Ok _) before now = now ≡ before
 abbrev pub HasSinkCause : {T : Type 0} → Result T SinkFault → ℕ → ℕ → Type 0
 HasSinkCause (Err _) before now = Rises before now
 HasSinkCause (Ok _) before now = now ≡ before
+
+-- of the system's errors want of memory is told as such, and all others as failures
+pub record TellsMemory (kind : ErrorKind) (fault : IoFault) : Type 0 where
+  pub memory : kind ≡ OutOfMemory → fault ≡ Memory
+  pub failed : kind ≢ OutOfMemory → fault ≡ Failed

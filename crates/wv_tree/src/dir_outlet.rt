@@ -10,8 +10,9 @@ use std::rt::Files;
 use wv_base::Text;
 
 /// Folders on disk, which the runtime gives. A name is a path as the system takes it. The folders
-/// that a file needs are made, and links in the named folder aren't followed: a file whose path
-/// leads over one fails. A failed put may leave a file that is cut short on the disk.
+/// that a file needs are made, and a file that is there is replaced. Links in the named folder
+/// aren't followed: a put whose path leads over one fails. A failed put may leave on the disk a
+/// file that is cut short.
 #[derive(Drop)]
 pub struct DirOutlet<R: Files + Drop> {
     runtime: R,

@@ -1,5 +1,7 @@
 //! Folders and files of the system, without following links in them.
 ghost use Rattle.std.specs.Prelude.{◌≤◌, ◌+◌, IfOk, OnOk, vec_len};
+ghost use Rattle.std.specs.IoError.{error_kind};
+ghost use Rattle.wv_tree.specs.Fault.{TellsMemory};
 ghost use Rattle.wv_tree.specs.Tree.{IsAscending, path_bytes};
 
 use crate::fault::IoFault;
@@ -15,6 +17,8 @@ const MOST_NESTED: usize = 64;
 const PIECE: usize = 8192;
 
 impl From<io::Error> for IoFault {
+    ghost from_gives = { λ error fault. TellsMemory (error_kind error) fault };
+
     fn from(error: io::Error) -> IoFault {
         if error.kind() == ErrorKind::OutOfMemory {
             IoFault::Memory
@@ -51,6 +55,34 @@ fn in_order(mut paths: Vec<String>) -> Vec<String>
     paths.sort_unstable();
     paths.dedup();
     paths
+}
+
+/// What stands at a path. A link is none of the three that have a name, so none is followed.
+#[derive(Clone, Copy, PartialEq, Eq)]
+enum Kind {
+    Absent,
+    Folder,
+    File,
+    Other,
+}
+
+fn kind_of(files: &impl Files, path: &str) -> Result<Kind, IoFault> {
+    match fs::symlink_metadata(files, path) {
+        Ok(found) if found.is_dir() => Ok(Kind::Folder),
+        Ok(found) if found.is_file() => Ok(Kind::File),
+        Ok(_) => Ok(Kind::Other),
+        Err(error) if error.kind() == ErrorKind::NotFound => Ok(Kind::Absent),
+        Err(error) => Err(error.into()),
+    }
+}
+
+/// Fails where something else stands at the path, or nothing.
+fn require(files: &impl Files, path: &str, wanted: Kind) -> Result<(), IoFault> {
+    if kind_of(files, path)? == wanted {
+        Ok(())
+    } else {
+        Err(IoFault::Failed)
+    }
 }
 
 /// A folder that is still to be gone through: its path below the first one, and how many folders
@@ -134,14 +166,11 @@ where
     F: Drop,
     requires { F.IsAlwaysCallable visit }
 {
-    if folder.is_empty() {
+    if folder.is_empty() || !path.split('/').all(is_name) {
         return Err(IoFault::Failed);
     }
     let mut place = String::from_str(alloc, folder)?;
     for part in path.split('/') {
-        if !is_name(part) {
-            return Err(IoFault::Failed);
-        }
         if place.len() > folder.len() {
             visit(place.as_str())?;
         }
@@ -166,21 +195,15 @@ pub(crate) fn read(
 ) -> Result<Vec<u8>, IoFault>
     ensures { IfOk result (λ bytes. vec_len bytes ≤ most) }
 {
-    let place = place_of(alloc, folder, path, |inner| require_no_link(files, inner))?;
-    if !fs::symlink_metadata(files, place.as_str())?.is_file() {
-        return Err(IoFault::Failed);
-    }
+    let place = place_of(
+        alloc,
+        folder,
+        path,
+        |inner| require(files, inner, Kind::Folder),
+    )?;
+    require(files, place.as_str(), Kind::File)?;
     let mut file = fs::open(files, place.as_str())?;
     read_front(alloc, &mut file, most)
-}
-
-/// Fails where there is no such folder, and where a link stands in its place.
-fn require_no_link(files: &impl Files, folder: &str) -> Result<(), IoFault> {
-    if fs::symlink_metadata(files, folder)?.is_dir() {
-        Ok(())
-    } else {
-        Err(IoFault::Failed)
-    }
 }
 
 /// What a reader gives up to its end, at most `most` bytes.
@@ -225,27 +248,17 @@ pub(crate) fn put(
 ) -> Result<(), IoFault> {
     fs::create_dir_all(files, folder)?;
     let place = place_of(alloc, folder, path, |inner| make_folder(files, inner))?;
-    if is_there(files, place.as_str())? && !fs::symlink_metadata(files, place.as_str())?.is_file() {
-        return Err(IoFault::Failed);
+    match kind_of(files, place.as_str())? {
+        Kind::Absent | Kind::File => Ok(fs::write(files, place.as_str(), bytes)?),
+        Kind::Folder | Kind::Other => Err(IoFault::Failed),
     }
-    fs::write(files, place.as_str(), bytes)?;
-    Ok(())
 }
 
-/// Makes a folder where it isn't there, and fails where a link stands in its place.
+/// Makes a folder where it isn't there, and fails where something else stands in its place.
 fn make_folder(files: &impl Files, folder: &str) -> Result<(), IoFault> {
-    if is_there(files, folder)? {
-        require_no_link(files, folder)
-    } else {
-        Ok(fs::create_dir(files, folder)?)
-    }
-}
-
-/// Whether a file, a folder or a link has this path.
-fn is_there(files: &impl Files, path: &str) -> Result<bool, IoFault> {
-    match fs::symlink_metadata(files, path) {
-        Ok(_) => Ok(true),
-        Err(error) if error.kind() == ErrorKind::NotFound => Ok(false),
-        Err(error) => Err(error.into()),
+    match kind_of(files, folder)? {
+        Kind::Absent => Ok(fs::create_dir(files, folder)?),
+        Kind::Folder => Ok(()),
+        Kind::File | Kind::Other => Err(IoFault::Failed),
     }
 }

@@ -124,6 +124,7 @@ fn folders_on_disk_are_written_and_read(rt: HostRuntime) -> Result<(), Fail> {
     }
     assert!(rt; tree.read(alloc, "p/b/absent", 1).is_err());
     assert!(rt; tree.read(alloc, "../o/p/b/z", 1).is_err());
+    fs::remove_dir_all(&rt, "o")?;
     Ok(())
 }
 
@@ -136,6 +137,7 @@ fn a_long_file_is_cut(rt: HostRuntime) -> Result<(), Fail> {
     for (most, wanted) in [(19_999, 19_999), (20_001, 20_000)] {
         assert_eq!(rt; tree.read(alloc, "long", most)?.len(), wanted);
     }
+    fs::remove_file(&rt, "long")?;
     Ok(())
 }
 
@@ -156,6 +158,7 @@ fn links_are_not_followed(rt: HostRuntime) -> Result<(), Fail> {
     assert!(rt; outlet.put(alloc, "file", b"2").is_err());
     assert!(rt; outlet.put(alloc, "folder/a", b"2").is_err());
     assert_eq!(rt; tree.read(alloc, "real/a", 9)?.as_slice(), b"1".as_slice());
+    fs::remove_dir_all(&rt, "f")?;
     Ok(())
 }
 
@@ -173,5 +176,6 @@ fn folders_nest_sixty_four_deep(rt: HostRuntime) -> Result<(), Fail> {
     path.push_str("/d")?;
     fs::create_dir_all(&rt, path.as_str())?;
     assert!(rt; tree.list(alloc).is_err());
+    fs::remove_dir_all(&rt, "n")?;
     Ok(())
 }

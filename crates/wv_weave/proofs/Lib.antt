@@ -1,0 +1,3 @@
+pub mod TypingChecks
+pub mod ExtraPaths
+pub mod UnfitPaths

@@ -1,0 +1,5 @@
+pub mod ClassRead
+pub mod Overwrite
+pub mod Checking
+pub mod Outside
+pub mod Woven

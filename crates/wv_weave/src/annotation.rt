@@ -38,7 +38,10 @@ pub(crate) fn read_mixin(
 ) -> Result<Items<Note>, PlainFault> {
     let mut reader = Reader::new(table);
     reader.expect(1)?;
-    plain(pool.text(reader.short()?)?.is_ascii("Lorg/spongepowered/asm/mixin/Mixin;"))?;
+    plain(
+        pool.text(reader.short()?)?
+            .is_ascii("Lorg/spongepowered/asm/mixin/Mixin;"),
+    )?;
     reader.expect(1)?;
     plain(pool.text(reader.short()?)?.is_ascii("value"))?;
     plain(reader.byte()? == b'[')?;
@@ -64,7 +67,10 @@ pub(crate) fn read_overwrite(
 ) -> Result<Items<Note>, PlainFault> {
     let mut reader = Reader::new(table);
     reader.expect(1)?;
-    plain(pool.text(reader.short()?)?.is_ascii("Lorg/spongepowered/asm/mixin/Overwrite;"))?;
+    plain(
+        pool.text(reader.short()?)?
+            .is_ascii("Lorg/spongepowered/asm/mixin/Overwrite;"),
+    )?;
     reader.expect(0)?;
     plain(reader.is_at_end())?;
     invisible(alloc, OVERWRITE, Items::new(alloc))

@@ -26,8 +26,7 @@ fn is_println(method: &Referred<'_>) -> bool {
 
 /// Whether a reference is a method `()V` of the game class or, in the mixin, of the mixin.
 fn is_own_method(method: &Referred<'_>, in_mixin: bool) -> bool {
-    let own = method.owner.is_ascii(GAME_CLASS)
-        || (in_mixin && method.owner.is_ascii(MIXIN_CLASS));
+    let own = method.owner.is_ascii(GAME_CLASS) || (in_mixin && method.owner.is_ascii(MIXIN_CLASS));
     own && !method.name.is_ascii("<init>")
         && !method.name.is_ascii("<clinit>")
         && method.descriptor.is_ascii("()V")

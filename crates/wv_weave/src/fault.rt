@@ -16,12 +16,20 @@ pub enum WeaveFault {
 }
 
 impl From<Memory> for WeaveFault {
+    ghost use Rattle.wv_weave.specs.declared.fault.WeaveFault.TheVariants as faults;
+
+    ghost from_gives = { λ _ e. e ≡ faults.Memory };
+
     fn from(_error: Memory) -> WeaveFault {
         WeaveFault::Memory
     }
 }
 
 impl From<AllocError> for WeaveFault {
+    ghost use Rattle.wv_weave.specs.declared.fault.WeaveFault.TheVariants as faults;
+
+    ghost from_gives = { λ _ e. e ≡ faults.Memory };
+
     fn from(_error: AllocError) -> WeaveFault {
         WeaveFault::Memory
     }
@@ -35,18 +43,30 @@ pub(crate) enum PlainFault {
 }
 
 impl From<Memory> for PlainFault {
+    ghost use Rattle.wv_weave.specs.declared.fault.PlainFault.TheVariants as faults;
+
+    ghost from_gives = { λ _ e. e ≡ faults.Memory };
+
     fn from(_error: Memory) -> PlainFault {
         PlainFault::Memory
     }
 }
 
 impl From<AllocError> for PlainFault {
+    ghost use Rattle.wv_weave.specs.declared.fault.PlainFault.TheVariants as faults;
+
+    ghost from_gives = { λ _ e. e ≡ faults.Memory };
+
     fn from(_error: AllocError) -> PlainFault {
         PlainFault::Memory
     }
 }
 
 impl<T: Drop> From<AllocFailed<T>> for PlainFault {
+    ghost use Rattle.wv_weave.specs.declared.fault.PlainFault.TheVariants as faults;
+
+    ghost from_gives = { λ _ e. e ≡ faults.Memory };
+
     fn from(_error: AllocFailed<T>) -> PlainFault {
         PlainFault::Memory
     }

@@ -2,10 +2,12 @@
 #![tactic(auto)]
 
 mod annotation;
+mod class_read;
 mod code;
 mod fault;
 mod form;
 mod opcode;
+mod outside;
 mod overwrite;
 mod path;
 mod plain_class;

@@ -1,5 +1,6 @@
 //! Plain classes: the game class and the mixin of the form.
-ghost use Rattle.std.specs.Prelude.{◌≡◌};
+ghost use Rattle.std.specs.Prelude.{◌≡◌, MatchOption};
+ghost use Rattle.wv_model.specs.PlainClass.{HasMagic, IsMagicFault};
 
 use crate::annotation::{read_mixin, read_overwrite};
 use crate::code::read_insns;
@@ -30,7 +31,9 @@ const METHOD_FLAGS: u16 = 0x0009;
 const MAIN_DESCRIPTOR: &str = "([Ljava/lang/String;)V";
 
 /// The first byte that differs from the magic number, or the length of bytes that end within it.
-pub(crate) fn magic_fault(bytes: &[u8]) -> Option<usize> {
+pub(crate) fn magic_fault(bytes: &[u8]) -> Option<usize>
+    ensures { MatchOption result (HasMagic bytes.now) (λ place. IsMagicFault bytes.now place) }
+{
     for (place, byte) in MAGIC.iter().enumerate() {
         if bytes.get(place) != Some(byte) {
             return Some(place);
@@ -183,7 +186,10 @@ fn read_class_notes(
         return Ok(Items::new(alloc));
     }
     reader.expect(1)?;
-    plain(pool.text(reader.short()?)?.is_ascii("RuntimeInvisibleAnnotations"))?;
+    plain(
+        pool.text(reader.short()?)?
+            .is_ascii("RuntimeInvisibleAnnotations"),
+    )?;
     let length = reader.length()?;
     read_mixin(alloc, pool, reader.take(length)?)
 }

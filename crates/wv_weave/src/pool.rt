@@ -6,7 +6,6 @@ use std::alloc::Global;
 use wv_base::{
     Items, Name, PoolEntry, is_class_constant, is_field_descriptor, is_field_name,
     is_method_descriptor, is_method_name,
-
 };
 
 /// The tags of the entries that a plain class may have (JVM Specification 4.4).

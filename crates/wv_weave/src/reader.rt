@@ -1,4 +1,5 @@
 //! Numbers of big-endian bytes, from left to right.
+ghost use Rattle.std.specs.Prelude.{◌≡◌, MatchBool};
 
 use crate::fault::PlainFault;
 
@@ -57,7 +58,9 @@ impl<'a> Reader<'a> {
 }
 
 /// What a plain class has to meet.
-pub(crate) fn plain(holds: bool) -> Result<(), PlainFault> {
+pub(crate) fn plain(holds: bool) -> Result<(), PlainFault>
+    ensures { MatchBool holds (result ≡ Ok tt) (result ≡ Err PlainFault.NotPlain) }
+{
     if holds {
         Ok(())
     } else {

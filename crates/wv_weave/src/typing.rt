@@ -1,10 +1,16 @@
 //! Type checking of plain code (JVM Specification 4.10.1).
+ghost use Rattle.std.specs.Prelude.{◌≡◌, [], ◌∷◌, length, MatchBool, OnOk, Some, None};
+ghost use Rattle.wv_model.specs.PlainTyping.{HasTyping};
+ghost use Rattle.wv_weave.specs.Checking.{Tells, type_of, taken, added, dropped, printed, next_plain, next_push, next_reference, next, IsNext};
 
 use crate::fault::PlainFault;
-use crate::opcode::{GETSTATIC, IADD, ICONST_0, ICONST_5, IMUL, INVOKEVIRTUAL, POP};
+use crate::opcode::{
+    BIPUSH, GETSTATIC, IADD, ICONST_0, ICONST_5, IMUL, INVOKESTATIC, INVOKEVIRTUAL, POP, RETURN,
+};
 use crate::reader::plain;
 use std::alloc::Global;
-use wv_base::Insn;
+use std::marker::Model;
+use wv_base::{Insn, Memory};
 
 /// The types that stand on the stack of plain code: an int, or the print stream.
 #[derive(Clone, Copy, Debug, PartialEq, Eq)]
@@ -13,62 +19,128 @@ enum Kind {
     Stream,
 }
 
-/// The operand stack, which has room for so many words.
+/// The operand stack, the top last. Contracts see its types, the top first.
 #[derive(Drop)]
 struct Stack {
     kinds: Vec<Kind>,
-    room: usize,
+}
+
+impl Model for Stack {
+    ghost use Rattle.std.specs.Prelude.{List, map, reverse};
+    ghost use Rattle.wv_base.specs.declared.frame.VType.{VType};
+    ghost use Rattle.wv_weave.specs.Checking.{type_of};
+
+    ghost Value = { List VType };
+
+    ghost view = { λ s. map type_of (reverse s.kinds.items) };
 }
 
 impl Stack {
-    fn push(&mut self, kind: Kind) -> Result<(), PlainFault> {
-        plain(self.kinds.len() < self.room)?;
+    fn new(alloc: Global) -> Stack
+        ensures { result ≡ [] }
+    {
+        Stack {
+            kinds: Vec::new(alloc),
+        }
+    }
+
+    fn len(&self) -> usize
+        ensures { result ≡ length self.now }
+    {
+        self.kinds.len()
+    }
+
+    fn push(&mut self, kind: Kind) -> Result<(), Memory>
+        ensures { OnOk result (self.new ≡ type_of kind ∷ self.old) }
+    {
         self.kinds.push(kind)?;
         Ok(())
     }
 
-    fn pop(&mut self, kind: Kind) -> Result<(), PlainFault> {
-        plain(self.kinds.pop() == Some(kind))
+    /// Takes the top off, and says whether it is of this kind.
+    fn take(&mut self, kind: Kind) -> bool
+        ensures { MatchBool result (taken kind self.old ≡ Some self.new) (taken kind self.old ≡ None) }
+    {
+        match self.kinds.pop() {
+            Some(top) => top == kind,
+            None => false,
+        }
     }
 
-    /// The row of an instruction.
-    fn apply(&mut self, insn: &Insn) -> Result<(), PlainFault> {
+    /// Takes the top off, whatever it is, and says whether there is one.
+    fn drop_top(&mut self) -> bool
+        ensures { MatchBool result (dropped self.old ≡ Some self.new) (dropped self.old ≡ None) }
+    {
+        self.kinds.pop().is_some()
+    }
+
+    fn add(&mut self) -> Result<(), PlainFault>
+        ensures { IsNext result (added self.old) self.new }
+    {
+        plain(self.take(Kind::Int))?;
+        plain(self.take(Kind::Int))?;
+        self.push(Kind::Int)?;
+        Ok(())
+    }
+
+    fn print(&mut self) -> Result<(), PlainFault>
+        ensures { IsNext result (printed self.old) self.new }
+    {
+        plain(self.take(Kind::Int))?;
+        plain(self.take(Kind::Stream))
+    }
+
+    fn apply_plain(&mut self, op: u8) -> Result<(), PlainFault>
+        ensures { IsNext result (next_plain op self.old) self.new }
+    {
+        match op {
+            ICONST_0..=ICONST_5 => Ok(self.push(Kind::Int)?),
+            IADD | IMUL => self.add(),
+            POP => plain(self.drop_top()),
+            RETURN => Ok(()),
+            _ => Err(PlainFault::NotPlain),
+        }
+    }
+
+    fn apply_push(&mut self, op: u8) -> Result<(), PlainFault>
+        ensures { IsNext result (next_push op self.old) self.new }
+    {
+        plain(op == BIPUSH)?;
+        Ok(self.push(Kind::Int)?)
+    }
+
+    fn apply_reference(&mut self, op: u8) -> Result<(), PlainFault>
+        ensures { IsNext result (next_reference op self.old) self.new }
+    {
+        match op {
+            GETSTATIC => Ok(self.push(Kind::Stream)?),
+            INVOKEVIRTUAL => self.print(),
+            INVOKESTATIC => Ok(()),
+            _ => Err(PlainFault::NotPlain),
+        }
+    }
+
+    /// The row of an instruction. One that plain code doesn't have has none.
+    fn apply(&mut self, insn: &Insn) -> Result<(), PlainFault>
+        ensures { IsNext result (next insn.now self.old) self.new }
+    {
         match insn {
-            Insn::Plain {
-                op: ICONST_0..=ICONST_5,
-            }
-            | Insn::Push { .. } => self.push(Kind::Int),
-            Insn::Plain { op: IADD | IMUL } => {
-                self.pop(Kind::Int)?;
-                self.pop(Kind::Int)?;
-                self.push(Kind::Int)
-            }
-            Insn::Plain { op: POP } => plain(self.kinds.pop().is_some()),
-            Insn::Reference { op: GETSTATIC, .. } => self.push(Kind::Stream),
-            Insn::Reference {
-                op: INVOKEVIRTUAL, ..
-            } => {
-                self.pop(Kind::Int)?;
-                self.pop(Kind::Stream)
-            }
-            // A call of a method `()V`, and `return`, leave the stack as it is.
-            _ => Ok(()),
+            Insn::Plain { op } => self.apply_plain(*op),
+            Insn::Push { op, .. } => self.apply_push(*op),
+            Insn::Reference { op, .. } => self.apply_reference(*op),
+            _ => Err(PlainFault::NotPlain),
         }
     }
 }
 
 /// That plain code has a typing within the declared stack.
-pub(crate) fn check_typing(
-    alloc: Global,
-    max_stack: u16,
-    insns: &[Insn],
-) -> Result<(), PlainFault> {
-    let mut stack = Stack {
-        kinds: Vec::new(alloc),
-        room: max_stack as usize,
-    };
+pub(crate) fn check_typing(alloc: Global, max_stack: u16, insns: &[Insn]) -> Result<(), PlainFault>
+    ensures { Tells result (HasTyping max_stack insns.now) }
+{
+    let mut stack = Stack::new(alloc);
     for insn in insns {
         stack.apply(insn)?;
+        plain(stack.len() <= max_stack as usize)?;
     }
     Ok(())
 }

@@ -1,12 +1,15 @@
 //! The weaver: the first broken rule of a folder, or the files that it is woven to.
+ghost use Rattle.std.specs.Prelude.{◌≡◌, ℕ, List, [], ◌∷◌, IfOk};
+ghost use Rattle.wv_model.specs.MemberTable.{written_path};
+ghost use Rattle.wv_model.specs.FirstForm.{out_of_form};
+ghost use Rattle.wv_weave.specs.Outside.{IsMisplaced, RefusesForm};
+ghost use Rattle.wv_weave.specs.Woven.{IsOneEdit};
 
-use crate::fault::{PlainFault, WeaveFault};
-use crate::form::{
-    GAME_CLASS, GAME_CLASS_PATH, MIXIN_CLASS, MIXIN_CLASS_PATH, PATHS, WRITTEN_PATH, json_of,
-};
+use crate::class_read::{ClassRead, read_at};
+use crate::fault::WeaveFault;
+use crate::form::{GAME_CLASS, GAME_CLASS_PATH, MIXIN_CLASS, MIXIN_CLASS_PATH, WRITTEN_PATH};
+use crate::outside::first_outside;
 use crate::overwrite::{overwrite, target_of};
-use crate::path::is_read;
-use crate::plain_class::{magic_fault, read_plain};
 use crate::write::write_class;
 use std::alloc::Global;
 use wv_base::{
@@ -26,23 +29,9 @@ pub struct Woven {
     pub hooks: u32,
 }
 
-/// What is read of a class file of the form.
-#[derive(Drop)]
-enum ClassRead {
-    Class(ClassFile),
-    /// The bytes don't begin with the magic number, and this is the first other byte.
-    NoMagic(usize),
-    /// The file is missing, or isn't plain.
-    OutOfForm,
-}
-
-impl ClassRead {
-    fn is_of_form(&self) -> bool {
-        !matches!(self, ClassRead::OutOfForm)
-    }
-}
-
-fn text(alloc: Global, text: &str) -> Result<Text, Memory> {
+fn text(alloc: Global, text: &str) -> Result<Text, Memory>
+    ensures { IfOk result (λ copy. copy ≡ text.now) }
+{
     Text::from_str(alloc, text)
 }
 
@@ -67,7 +56,9 @@ fn broken(
 }
 
 /// The refusal of a form that isn't built yet.
-fn out_of_form(alloc: Global, path: &str) -> Result<WeaveFault, Memory> {
+fn refused_form(alloc: Global, path: &str) -> Result<WeaveFault, Memory>
+    ensures { IfOk result (λ fault. fault ≡ WeaveFault.Broken (out_of_form path.now)) }
+{
     let broken = Broken::at_file(alloc, Rule::OutOfForm, path)?;
     Ok(WeaveFault::Broken(broken))
 }
@@ -103,82 +94,30 @@ fn overwrite_missing(alloc: Global, method: &Member) -> Result<WeaveFault, Memor
     )
 }
 
-fn read_at(
-    alloc: Global,
-    folder: &Folder,
-    path: &str,
-    name: &str,
-) -> Result<ClassRead, Memory> {
-    let Some(bytes) = folder.find(path) else {
-        return Ok(ClassRead::OutOfForm);
-    };
-    if let Some(at) = magic_fault(bytes.as_slice()) {
-        return Ok(ClassRead::NoMagic(at));
-    }
-    match read_plain(alloc, bytes.as_slice()) {
-        Ok(class) if class.name.is_ascii(name) => Ok(ClassRead::Class(class)),
-        Ok(_) | Err(PlainFault::NotPlain) => Ok(ClassRead::OutOfForm),
-        Err(PlainFault::Memory) => Err(Memory),
-    }
-}
-
-/// Whether the file is there with the text that the form asks for.
-fn has_text(folder: &Folder, path: &str, text: &str) -> bool {
-    match folder.find(path) {
-        Some(bytes) => bytes.as_slice() == text.as_bytes(),
-        None => false,
-    }
-}
-
-/// The first of the form's paths whose file is missing or has another content.
-fn first_outside(folder: &Folder, game: &ClassRead, mixin: &ClassRead) -> Option<&'static str> {
-    for path in PATHS {
-        let fits = match json_of(path) {
-            Some(text) => has_text(folder, path, text),
-            None if path == GAME_CLASS_PATH => game.is_of_form(),
-            None => mixin.is_of_form(),
-        };
-        if !fits {
-            return Some(path);
-        }
-    }
-    None
-}
-
-/// The first path that counts for the form, being read or a jar, and isn't one of the form's.
-fn first_extra(folder: &Folder) -> Option<&str> {
-    for file in folder.files() {
-        let path = file.0.as_str();
-        let counts = is_read(path) || path.ends_with(".jar");
-        if counts && !PATHS.contains(&path) {
-            return Some(path);
-        }
-    }
-    None
-}
-
-/// The lesser of two paths by their bytes, where there are such.
-fn lesser<'a>(first: Option<&'a str>, second: Option<&'a str>) -> Option<&'a str> {
-    match (first, second) {
-        (Some(first), Some(second)) => Some(if first < second { first } else { second }),
-        (Some(path), None) | (None, Some(path)) => Some(path),
-        (None, None) => None,
-    }
-}
-
 fn written(alloc: Global, class: &ClassFile) -> Result<Bytes, WeaveFault> {
     match write_class(alloc, class) {
         Ok(bytes) => Ok(bytes),
         // A plain class and the pool entries of one method keep far within every limit.
         Err(LimitFault::PoolLarge | LimitFault::CodeLarge | LimitFault::BranchFar) => {
-            Err(out_of_form(alloc, GAME_CLASS_PATH)?)
+            Err(refused_form(alloc, GAME_CLASS_PATH)?)
         }
         Err(LimitFault::Memory) => Err(WeaveFault::Memory),
     }
 }
 
+/// The folder of the written class.
+fn one_file(alloc: Global, bytes: Bytes) -> Result<Folder, Memory>
+    ensures { IfOk result (λ files. files ≡ (written_path, bytes) ∷ []) }
+{
+    let mut files = Folder::new(alloc);
+    files.push(text(alloc, WRITTEN_PATH)?, bytes)?;
+    Ok(files)
+}
+
 /// Applies the mixin to the game class.
-fn merge(alloc: Global, mut game: ClassFile, mixin: &ClassFile) -> Result<Woven, WeaveFault> {
+fn merge(alloc: Global, mut game: ClassFile, mixin: &ClassFile) -> Result<Woven, WeaveFault>
+    ensures { IfOk result IsOneEdit }
+{
     for method in mixin.methods.as_slice() {
         let Some(place) = target_of(&game, method) else {
             return Err(overwrite_missing(alloc, method)?);
@@ -186,10 +125,8 @@ fn merge(alloc: Global, mut game: ClassFile, mixin: &ClassFile) -> Result<Woven,
         overwrite(alloc, &mut game, place, method)?;
     }
     let bytes = written(alloc, &game)?;
-    let mut files = Folder::new(alloc);
-    files.push(text(alloc, WRITTEN_PATH)?, bytes)?;
     Ok(Woven {
-        files,
+        files: one_file(alloc, bytes)?,
         edited: 1,
         mixins: 1,
         hooks: 0,
@@ -201,8 +138,17 @@ fn class_of(alloc: Global, path: &str, read: ClassRead) -> Result<ClassFile, Wea
     match read {
         ClassRead::Class(class) => Ok(class),
         ClassRead::NoMagic(at) => Err(class_bad(alloc, path, at)?),
-        ClassRead::OutOfForm => Err(out_of_form(alloc, path)?),
+        ClassRead::OutOfForm => Err(refused_form(alloc, path)?),
     }
+}
+
+/// Applies the mixin, where both class files are read as classes.
+fn apply(alloc: Global, game: ClassRead, mixin: ClassRead) -> Result<Woven, WeaveFault>
+    ensures { IfOk result IsOneEdit }
+{
+    let game = class_of(alloc, GAME_CLASS_PATH, game)?;
+    let mixin = class_of(alloc, MIXIN_CLASS_PATH, mixin)?;
+    merge(alloc, game, &mixin)
 }
 
 /// Weaves a folder, or answers the first rule that it breaks.
@@ -210,14 +156,14 @@ fn class_of(alloc: Global, path: &str, read: ClassRead) -> Result<ClassFile, Wea
 /// Built so far is one form: five files, with one game class and one mixin that overwrites one
 /// method of it. The rules are OutOfForm, ClassBad for a file that doesn't begin with the magic
 /// number, and OverwriteMissing.
-pub fn weave(alloc: Global, folder: &Folder, _side: Side) -> Result<Woven, WeaveFault> {
+pub fn weave(alloc: Global, folder: &Folder, _side: Side) -> Result<Woven, WeaveFault>
+    ensures form { (path : List ℕ) → IsMisplaced folder.now path → RefusesForm result path }
+    ensures one_edit { IfOk result IsOneEdit }
+{
     let game = read_at(alloc, folder, GAME_CLASS_PATH, GAME_CLASS)?;
     let mixin = read_at(alloc, folder, MIXIN_CLASS_PATH, MIXIN_CLASS)?;
-    let outside = first_outside(folder, &game, &mixin);
-    if let Some(path) = lesser(first_extra(folder), outside) {
-        return Err(out_of_form(alloc, path)?);
+    match first_outside(folder, &game, &mixin) {
+        Some(path) => Err(refused_form(alloc, path)?),
+        None => apply(alloc, game, mixin),
     }
-    let game = class_of(alloc, GAME_CLASS_PATH, game)?;
-    let mixin = class_of(alloc, MIXIN_CLASS_PATH, mixin)?;
-    merge(alloc, game, &mixin)
 }

@@ -6,5 +6,5 @@ use Rattle.wv_base.proofs.grammar.is_class.Goals as goal
 
 pub returns : goal.returns
 returns c = all_from_yields_List is_unqualified _ _ _ c.all.ensures.ran
-  (YieldsList-from_slice_split _ _ c.args.units.now c.split.ensures.rest c.split.ensures.done c.split.ensures.closure (λ x r q k. search (rules, tests)))
-  (λ x b q k. search (rules, tests))
+    (YieldsList-from_slice_split _ _ c.args.units.now c.split.ensures.rest c.split.ensures.done c.split.ensures.closure (λ x r q k. search (rules, tests)))
+    (λ x b q k. search (rules, tests))

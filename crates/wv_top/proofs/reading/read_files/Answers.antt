@@ -12,12 +12,12 @@ word_at words i word text lt here spelled =
 pub push-requires : goal.push-requires
 push-requires g c =
     next-after_all (map string_bytes c.args.paths.now) c.loop-path.folder c.loop-path.path-index c.in_ok-from_str.field-0 c.requires c.loop-path.invariant.1
-        (omega (arith, length-map c.args.paths.now string_bytes))
-        (word_at c.args.paths.now c.loop-path.path-index c.path-item.result c.in_ok-from_str.field-0 c.loop-path-test.true c.path-item.is (c.in_ok-from_str.ensures ∙ c.as_str-in-loop-path.ensures.value))
+    (omega (arith, length-map c.args.paths.now string_bytes))
+    (word_at c.args.paths.now c.loop-path.path-index c.path-item.result c.in_ok-from_str.field-0 c.loop-path-test.true c.path-item.is (c.in_ok-from_str.ensures ∙ c.as_str-in-loop-path.ensures.value))
 
 pub loop-path-preserved : goal.loop-path-preserved
 loop-path-preserved g c =
     let more = paths-more (map string_bytes c.args.paths.now) c.loop-path.folder c.loop-path.path-index c.in_ok-from_str.field-0 c.from_vec.result c.loop-path.invariant.1
-        (omega (arith, length-map c.args.paths.now string_bytes))
-        (word_at c.args.paths.now c.loop-path.path-index c.path-item.result c.in_ok-from_str.field-0 c.loop-path-test.true c.path-item.is (c.in_ok-from_str.ensures ∙ c.as_str-in-loop-path.ensures.value)) in
+    (omega (arith, length-map c.args.paths.now string_bytes))
+    (word_at c.args.paths.now c.loop-path.path-index c.path-item.result c.in_ok-from_str.field-0 c.loop-path-test.true c.path-item.is (c.in_ok-from_str.ensures ∙ c.as_str-in-loop-path.ensures.value)) in
     (c.in_ok-bytes.ensures.cause ∙ c.loop-path.invariant.0, rw c.in_ok-push.ensures.ok more)

@@ -1,0 +1,19 @@
+use Rattle.std.proofs.Common.{◌∙◌}
+use Rattle.std.specs.Map.Iter.{deref_pair}
+use Rattle.std.proofs.lemmas.Map.Iter.{rest_more}
+use Rattle.wv_json.specs.Kind.{IsText, IsObjectOf}
+use Rattle.wv_json.proofs.Members.{read_to-none, read_to-push}
+use Rattle.wv_json.proofs.member.text_tables.Goals as goal
+
+pub returns-in_default : goal.returns-in_default
+returns-in_default c =
+    let next = rest_more deref_pair c.loop-key.key-iterator c.next.new.self c.next.result (c.in-Some.key, c.in-Some.value) c.in-Some.is c.next.ensures.steps in
+    read_to-none (IsObjectOf IsText) c.args.map.now.entries c.loop-key.key-iterator c.next.new.self c.loop-key.tables (c.in-Some.key.now, c.in-Some.value.now) c.loop-key.invariant next (rw c.in_default.is at c.in_ok-table.ensures)
+
+pub loop-key-preserved : goal.loop-key-preserved
+loop-key-preserved c =
+    let next = rest_more deref_pair c.loop-key.key-iterator c.next.new.self c.next.result (c.in-Some.key, c.in-Some.value) c.in-Some.is c.next.ensures.steps in
+    rw c.in_ok-push.ensures.ok
+    (read_to-push (IsObjectOf IsText) c.args.map.now.entries c.loop-key.key-iterator c.next.new.self c.loop-key.tables (c.in-Some.key.now, c.in-Some.value.now) c.in_ok-from_str.field-0 c.in-Some-2.table c.loop-key.invariant next
+    (c.in_ok-from_str.ensures ∙ c.as_str.ensures.value)
+    (rw c.in-Some-2.is at c.in_ok-table.ensures))

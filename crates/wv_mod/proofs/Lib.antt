@@ -1,0 +1,5 @@
+pub mod Fields
+pub mod Keys
+pub mod Mixing
+pub mod Relating
+pub mod Stopping

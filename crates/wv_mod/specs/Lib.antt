@@ -1,0 +1,9 @@
+pub mod Field
+pub mod Environment
+pub mod Id
+pub mod Mixins
+pub mod Manifest
+pub mod Key
+pub mod Dependency
+pub mod Flaw
+pub mod ModInfo

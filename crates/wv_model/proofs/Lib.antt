@@ -1,0 +1,13 @@
+pub mod Runs
+pub mod Corresponds
+pub mod EverySchedule
+pub mod Turns
+pub mod Lift
+pub mod Safety
+pub mod Blocks
+pub mod EndsWell
+pub mod ThreadsLift
+pub mod Limit
+pub mod FirstFormExamples
+pub mod SmallClass
+pub mod FirstPlace

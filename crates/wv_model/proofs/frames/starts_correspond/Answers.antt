@@ -1,0 +1,9 @@
+use Rattle.std.proofs.Common.{arith}
+use Rattle.wv_model.specs.Corresponds.{steps_for_one}
+use Rattle.wv_model.proofs.Lift as Law
+use Rattle.wv_model.proofs.frames.starts_correspond.Goals as goal
+
+pub returns : goal.returns
+returns g c =
+    let law = g.S.FrameSimulation in
+    Law.starts_correspond steps_for_one law.rules law.first law.second law.relation law.laws (omega arith)

@@ -1,0 +1,10 @@
+pub mod Cutting
+pub mod Pieces
+pub mod Numerals
+pub mod FirstLower
+pub mod Identifiers
+pub mod Dotting
+pub mod Ordering
+pub mod Edges
+pub mod Signs
+pub mod Spaces

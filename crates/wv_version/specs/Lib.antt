@@ -1,0 +1,11 @@
+pub mod Cut
+pub mod Numeral
+pub mod Dots
+pub mod Identifier
+pub mod Order
+pub mod Dotted
+pub mod Version
+pub mod Relation
+pub mod Term
+pub mod Predicate
+pub mod Reading
