@@ -175,7 +175,7 @@ module _ (pool : List PoolEntry) where
   pub handle_sound : (kind n : ℕ) (m : MemberReference) (i : Bool) → IsHandle kind m i → constant_of pool n ≡ Some (handled kind m i) → IsSound pool (entries.MethodHandle kind n)
   handle_sound kind n m true h e = interface_handle_sound kind n m (handled_as n (handled kind m true) (constants.Method m true) (high_kind kind m true (omega (arith, h.1))) e) h.1 h.2 h.3 h.4
   handle_sound kind n m false (inl h) e = field_handle_sound kind n m (handled_as n (handled kind m false) (constants.Field m) (low_kind kind m false h.2) e) h.1 h.2
-  handle_sound kind n m false (inr h) e = method_handle_sound kind n m (handled_as n (handled kind m false) (constants.Method m false) (high_kind kind m false h.1) e) h.1 h.2 h.3 h.4
+  handle_sound kind n m false (inr h) e = method_handle_sound kind n m (handled_as n (handled kind m false) (constants.Method m false) (high_kind kind m false h.1) e) h.1 h.2 h.3.0 h.3.1
 
   pub handle_named : (kind n : ℕ) (m : MemberReference) (i : Bool) → IsHandle kind m i → constant_of pool n ≡ Some (handled kind m i) → constant_in pool (entries.MethodHandle kind n) ≡ Some (constants.MethodHandle kind m i)
   handle_named kind n m true h e = method_handle pool kind n m true (handled_as n (handled kind m true) (constants.Method m true) (high_kind kind m true (omega (arith, h.1))) e)

@@ -32,12 +32,16 @@ IsFieldReference m = IsClassText m.owner × IsFieldText m.name m.descriptor
 abbrev pub IsMethodReference : MemberReference → Type 0
 IsMethodReference m = IsClassText m.owner × IsMethodText m.name m.descriptor
 
+-- the name of a class's method that a handle of a kind names: kind 8 makes a new instance
+abbrev pub IsCalled : ℕ → List ℕ → Type 0
+IsCalled kind name = (kind ≡ 8 → IsInit name) × (kind ≢ 8 → IsSpecial name → ⊥)
+
 -- what a handle of a kind names (4.4.8)
 abbrev pub IsHandle : ℕ → MemberReference → Bool → Type 0
 IsHandle kind m true = IsMethodReference m × (6 ≤ kind) × (kind ≤ 9) × (kind ≢ 8) × (IsSpecial m.name → ⊥)
 IsHandle kind m false =
     (IsFieldReference m × (1 ≤ kind) × (kind ≤ 4))
-    ⊎ (IsMethodReference m × (5 ≤ kind) × (kind ≤ 8) × (kind ≡ 8 → IsInit m.name) × (kind ≢ 8 → IsSpecial m.name → ⊥))
+    ⊎ (IsMethodReference m × (5 ≤ kind) × (kind ≤ 8) × IsCalled kind m.name)
 
 abbrev pub IsAllowed : Const → Type 0
 IsAllowed (constants.Utf8 name) = IsShort name

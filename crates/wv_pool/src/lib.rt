@@ -2,6 +2,7 @@
 #![tactic(auto)]
 
 mod add;
+mod allowed;
 mod building;
 mod entry;
 mod fact_table;
@@ -18,6 +19,7 @@ mod stop;
 mod writing;
 
 pub use add::PoolFault;
+pub use allowed::is_allowed;
 pub use pool::Pool;
 pub use reading::{read_layout, read_pool};
 pub use soundness::first_break;
