@@ -7,3 +7,12 @@ pub mod Faults
 pub mod FactTables
 pub mod Entire
 pub mod PoolReads
+pub mod KeyNumbers
+pub mod Behind
+pub mod Numbering
+pub mod Growing
+pub mod SoundPools
+pub mod Putting
+pub mod Entering
+pub mod Lacking
+pub mod Parts

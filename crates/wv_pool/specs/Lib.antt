@@ -5,3 +5,9 @@ pub mod References
 pub mod Facts
 pub mod Constants
 pub mod Answers
+pub mod Keys
+pub mod Index
+pub mod Numbers
+pub mod Adding
+pub mod Building
+pub mod Allowed

@@ -1,44 +1,108 @@
 //! A constant pool.
-ghost use Rattle.std.specs.Prelude.{◌≡◌, ◌≤◌, ◌++◌, List, ℕ, length, take, IfOk, IfErr};
+ghost use Rattle.std.specs.Prelude.{◌≡◌, ◌≤◌, ◌+◌, ◌++◌, ◌∷◌, [], ◌↔◌, List, ℕ, length, take, IfOk, IfErr, IfSome, IfNone, Some, vec_len, vec_capacity};
+ghost use Rattle.wv_pool.specs.Adding.{slots_of, Adds};
+ghost use Rattle.wv_pool.specs.Numbers.{IsLeast, Named};
 ghost use Rattle.std.specs.Option.{option_copied, option_map};
-ghost use Rattle.wv_pool.specs.Entries.{pool_bytes};
-ghost use Rattle.wv_pool.specs.References.{entry_of, text_of, IsPool};
-ghost use Rattle.wv_pool.specs.Constants.{class_name, named_pair, constant_of};
+ghost use Rattle.wv_pool.specs.Entries.{pool_bytes, IsEntry};
+ghost use Rattle.wv_pool.specs.References.{entry_of, text_of, IsSound, IsPool};
+ghost use Rattle.wv_pool.specs.Constants.{class_name, named_pair, constant_in, constant_of};
 
+use crate::add::PoolFault;
+use crate::building::index_of;
+use crate::entry::is_wide;
+use crate::index::Index;
 use crate::reference::entry_of;
 use crate::writing::pool_to_bytes;
 use std::alloc::Global;
 use std::marker::Model;
-use wv_base::{Bytes, Items, Memory, Name, PoolEntry};
+use wv_base::{Bytes, Const, Memory, Name, PoolEntry};
 
 /// A constant pool in which each number names what its place needs (JVM Specification 4.4).
 /// Contracts see the list of its entries, the first of which has number 1; a long or a double is
 /// followed by an entry that isn't usable.
-#[derive(Debug, Drop)]
+#[derive(Drop)]
 pub struct Pool {
-    entries: Items<PoolEntry>,
+    entries: Vec<PoolEntry>,
+    index: Index,
 }
 
 impl Model for Pool {
     ghost use Rattle.std.specs.Prelude.{List};
     ghost use Rattle.wv_base.specs.declared.class_file.PoolEntry.{PoolEntry};
     ghost use Rattle.wv_pool.specs.References.{IsPool};
+    ghost use Rattle.wv_pool.specs.Index.{number_in};
+    ghost use Rattle.wv_pool.specs.Numbers.{IsIn, Enters};
 
     ghost Value = { List PoolEntry };
 
-    ghost view = { λ p. p.entries };
+    ghost view = { λ p. p.entries.items };
 
-    ghost invariant = { λ p. IsPool p.entries };
+    ghost invariant = { λ p. IsPool p.entries.items × Enters p.entries.items (IsIn p.entries.items) (number_in p.index) };
+}
+
+/// How many numbers an entry takes.
+fn slot_count(entry: &PoolEntry) -> usize
+    ensures { result ≡ length (slots_of entry.now) }
+{
+    if is_wide(entry) { 2 } else { 1 }
+}
+
+/// Adds an entry, and the number behind it where it takes two, within the capacity.
+fn push_slots(entries: &mut Vec<PoolEntry>, entry: PoolEntry)
+    requires { vec_len entries.old + length (slots_of entry) ≤ vec_capacity entries.old }
+    ensures { entries.new.items ≡ entries.old.items ++ slots_of entry }
+{
+    let wide = is_wide(&entry);
+    if entries.push(entry).is_err() {
+        unreachable!()
+    }
+    if wide && entries.push(PoolEntry::Unusable).is_err() {
+        unreachable!()
+    }
 }
 
 impl Pool {
     /// The pool of these entries, in which each number names what its place needs, as `read_layout` and
     /// `first_break` show.
-    pub fn from_entries(entries: Items<PoolEntry>) -> Pool
-        requires { IsPool entries }
-        ensures { result ≡ entries }
+    pub fn from_entries(alloc: Global, entries: Vec<PoolEntry>) -> Result<Pool, Memory>
+        requires { IsPool entries.items }
+        ensures { IfOk result (λ pool. pool ≡ entries.items) }
     {
-        Pool { entries }
+        let index = index_of(alloc, &entries)?;
+        Ok(Pool { entries, index })
+    }
+
+    /// The least number that names the constant.
+    pub fn number_of(&self, constant: &Const) -> Option<u16>
+        ensures found { IfSome result (IsLeast self.now constant.now) }
+        ensures none { IfNone result (Named self.now constant.now → ⊥) }
+    {
+        self.index.number_of(constant)
+    }
+
+    /// Puts a constant whose parts have numbers into the pool as this entry, unless a number names it
+    /// already, and gives the least number that names it.
+    pub(crate) fn put(&mut self, constant: &Const, entry: PoolEntry) -> Result<u16, PoolFault>
+        requires laid_out { IsEntry entry }
+        requires sound { IsSound self.old entry }
+        requires named { constant_in self.old entry ≡ Some constant.now }
+        ensures { Adds self.old self.new (constant.now ∷ []) constant.now result }
+    {
+        if let Some(number) = self.index.number_of(constant) {
+            return Ok(number);
+        }
+        let count = self.entries.len() + 1;
+        let slots = slot_count(&entry);
+        if count + slots > 65535 {
+            return Err(PoolFault::Full);
+        }
+        let Some(key) = self.index.key(constant)? else {
+            unreachable!()
+        };
+        self.entries.reserve(slots)?;
+        self.index.insert(key, count as u16)?;
+        push_slots(&mut self.entries, entry);
+        Ok(count as u16)
     }
 
     /// The bytes of the pool, from its count on.

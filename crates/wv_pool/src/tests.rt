@@ -1,7 +1,7 @@
 use super::*;
 use std::alloc::Global;
 use std::test::*;
-use wv_base::{ClassFault, PoolEntry};
+use wv_base::{ClassFault, Const, MemberReference, Memory, Name, PoolEntry};
 
 /// The pool of the smallest class, and the flags behind it.
 const SMALLEST: [u8; 40] = [
@@ -125,4 +125,81 @@ fn faults(rt: HostRuntime) {
     for (bytes, want) in cases {
         assert_eq!(rt; fault(rt.alloc(), bytes), Some(want), "{bytes:?}");
     }
+}
+
+/// The pool that the constants of `constants_in_order` fill.
+const ADDED: [u8; 99] = [
+    0, 20, 1, 0, 1, 0x6D, 7, 0, 1, 1, 0, 3, 0x28, 0x29, 0x56, 12, 0, 1, 0, 3, 10, 0, 2, 0, 4, 15, 6,
+    0, 5, 5, 0xFF, 0xFF, 0xFF, 0xFF, 0xFF, 0xFF, 0xFF, 0xFF, 6, 0, 0, 0, 0, 0, 0, 0, 1, 3, 0, 0, 0,
+    7, 4, 0x7F, 0xC0, 0, 0, 8, 0, 1, 16, 0, 3, 18, 0, 7, 0, 4, 1, 0, 1, 0x49, 12, 0, 1, 0, 16, 9, 0,
+    2, 0, 17, 11, 0, 2, 0, 4, 0, 0, 0, 0, 0, 0, 0, 0, 0, 0, 0, 0,
+];
+
+fn member(alloc: Global, descriptor: &str) -> Result<MemberReference, Memory> {
+    Ok(MemberReference {
+        owner: Name::from_ascii(alloc, "m")?,
+        name: Name::from_ascii(alloc, "m")?,
+        descriptor: Name::from_ascii(alloc, descriptor)?,
+    })
+}
+
+/// A constant of each kind and its number in the pool that they fill.
+fn constants_in_order(alloc: Global) -> Result<[(Const, u16); 15], Memory> {
+    let m = Name::from_ascii(alloc, "m")?;
+    let empty = Name::from_ascii(alloc, "()V")?;
+    Ok([
+        (Const::MethodHandle { kind: 6, reference: member(alloc, "()V")?, interface: false }, 6),
+        (Const::Method { reference: member(alloc, "()V")?, interface: false }, 5),
+        (Const::NameAndType { name: m.copy()?, descriptor: empty.copy()? }, 4),
+        (Const::Utf8(empty.copy()?), 3),
+        (Const::Class(m.copy()?), 2),
+        (Const::Utf8(m.copy()?), 1),
+        (Const::Long(-1), 7),
+        (Const::Double(1), 9),
+        (Const::Integer(7), 11),
+        (Const::Float(0x7FC0_0000), 12),
+        (Const::String(m.copy()?), 13),
+        (Const::MethodType(empty.copy()?), 14),
+        (Const::InvokeDynamic { bootstrap: 7, name: m.copy()?, descriptor: empty.copy()? }, 15),
+        (Const::Field(member(alloc, "I")?), 18),
+        (Const::Method { reference: member(alloc, "()V")?, interface: true }, 19),
+    ])
+}
+
+#[test]
+fn each_constant_is_added_once(rt: HostRuntime) -> Result<(), Fail> {
+    let (mut pool, _) = read_pool(rt.alloc(), &[0, 1])?;
+    for _ in 0..2 {
+        for (constant, number) in &constants_in_order(rt.alloc())? {
+            assert!(rt; is_allowed(constant));
+            assert_eq!(rt; pool.add(constant)?, *number);
+        }
+    }
+    let bytes = pool.write(rt.alloc())?;
+    assert_eq!(rt; bytes.as_slice(), &ADDED[..bytes.as_slice().len()]);
+    let (again, _) = read_pool(rt.alloc(), bytes.as_slice())?;
+    for (constant, number) in &constants_in_order(rt.alloc())? {
+        assert_eq!(rt; again.number_of(constant), Some(*number));
+    }
+    Ok(())
+}
+
+#[test]
+fn a_full_pool(rt: HostRuntime) -> Result<(), Fail> {
+    // A count of 65,534, and integers that name one constant.
+    let mut bytes = vec![in rt.alloc(); 0xFF, 0xFE]?;
+    for _ in 0..65533 {
+        bytes.extend_from_slice(&[3, 0, 0, 0, 9])?;
+    }
+    let (mut pool, _) = read_pool(rt.alloc(), &bytes)?;
+    assert_eq!(rt; pool.number_of(&Const::Integer(9)), Some(1));
+    assert!(rt; matches!(pool.add(&Const::Long(0)), Err(PoolFault::Full)));
+    let text = Const::Utf8(Name::from_ascii(rt.alloc(), "a")?);
+    let other = Const::Utf8(Name::from_ascii(rt.alloc(), "b")?);
+    assert!(rt; is_allowed(&text) && is_allowed(&other));
+    assert_eq!(rt; pool.add(&text)?, 65534);
+    assert!(rt; matches!(pool.add(&other), Err(PoolFault::Full)));
+    assert_eq!(rt; pool.add(&text)?, 65534);
+    assert_eq!(rt; pool.entries().len(), 65534);
+    Ok(())
 }

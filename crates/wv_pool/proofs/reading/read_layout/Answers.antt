@@ -12,13 +12,13 @@ overflow_sub-result-in-Err-Left c = left_within c.args.bytes.now c.in-Err-Left.l
 pub returns-in-Ok-clause-found : goal.returns-in-Ok-clause-found
 returns-in-Ok-clause-found c =
     let r = was_read c.args.bytes.now c.in-Ok.entries.items c.in-Ok.rest.now (λ i. omega (arith, c.type_inv.bytes i)) c.in-Ok.ensures in
-    rw c.from_vec.ensures (r.layout, r.taken)
+    (r.layout, r.taken)
 
 pub returns-in-Ok-clause-only : goal.returns-in-Ok-clause-only
 returns-in-Ok-clause-only c = λ pool rest is starts.
     let r = was_read c.args.bytes.now c.in-Ok.entries.items c.in-Ok.rest.now (λ i. omega (arith, c.type_inv.bytes i)) c.in-Ok.ensures in
     let same = one_read c.args.bytes.now c.in-Ok.entries.items pool c.in-Ok.rest.now rest c.in-Ok.ensures is starts in
-    rw (c.from_vec.ensures, ← same) (refl, r.len)
+    rw (← same) (refl, r.len)
 
 pub returns-in-Err-Left-clause-only : goal.returns-in-Err-Left-clause-only
 returns-in-Err-Left-clause-only c = λ pool rest is starts. none_read c.args.bytes.now c.in-Err-Left.left pool rest (rw c.in-Err-Left.field-0-is at c.in-Err-Left.ensures) is starts
