@@ -1,5 +1,5 @@
 -- What entry stands behind a constant.
-use Rattle.std.proofs.Common.{◌≡◌, ℕ, ◌+◌, Bool, true, false, cond, List, [], ◌∷◌, length, Option, Some, None, refl, sym, ap, subst, ◌∙◌, arith}
+use Rattle.std.proofs.Common.{◌≡◌, ℕ, Bool, true, false, cond, List, length, Option, Some, None, refl, sym, ap, ◌∙◌, arith}
 use Rattle.std.specs.Prelude.{nat_eq, nat_lt}
 use Rattle.std.specs.Option.{option_map, option_and_then}
 use Rattle.wv_base.specs.declared.class_file.PoolEntry.{PoolEntry}
@@ -7,10 +7,10 @@ use Rattle.wv_base.specs.declared.class_file.PoolEntry.TheVariants as entries
 use Rattle.wv_base.specs.declared.constant.Const.{Const}
 use Rattle.wv_base.specs.declared.constant.Const.TheVariants as constants
 use Rattle.wv_base.specs.declared.constant.MemberReference.{MemberReference}
-use Rattle.wv_pool.specs.References.{entry_of, text_in, text_of, class_in, class_of, pair_in, pair_of}
+use Rattle.wv_pool.specs.References.{entry_of, text_in, text_of, class_in, pair_in}
 use Rattle.wv_pool.specs.Adding.{slots_of, numbers_of}
 use Rattle.wv_pool.specs.Building.{level_in}
-use Rattle.wv_pool.specs.Constants.{class_name, both, pair_texts, named_pair, member_of, member, handle, constant_in, constant_of}
+use Rattle.wv_pool.specs.Constants.{class_name, both, pair_texts, named_pair, member, handle, constant_in, constant_of}
 
 -- the tag of a constant's entry; a method's is one of two
 pub const_tag : Const → ℕ

@@ -1,5 +1,5 @@
 -- Entering the numbers of a pool into an index, one after the other.
-use Rattle.std.proofs.Common.{◌≡◌, ◌≢◌, ℕ, zero, suc, ◌+◌, ◌≤◌, ◌<◌, List, [], ◌∷◌, length, Option, Some, None, refl, sym, ap, subst, ◌∙◌, ◌⊎◌, inl, inr, arith, add-one, get_or, set}
+use Rattle.std.proofs.Common.{◌≡◌, ◌≢◌, ℕ, zero, suc, ◌+◌, ◌≤◌, ◌<◌, List, length, Option, Some, None, refl, sym, ap, subst, ◌∙◌, ◌⊎◌, inl, inr, arith, add-one, get_or, set}
 use Rattle.std.specs.Prelude.{slice_get, IsSomeAnd}
 use Rattle.std.specs.Option.{option_and_then}
 use Rattle.std.specs.List.{AllByRecursion}
@@ -51,6 +51,7 @@ built_first pool table g long none = record {
   where
     nothing : (d : Const) (m : ℕ) → number_for g d ≡ Some m → ⊥
     nothing d m h = let t = then_some g (find_key g d) m h in let never : ◌≡◌ {A = Option ℕ} None (Some m) = sym (none t.0) ∙ t.2 in absurd cc
+
     nowhere : (n : ℕ) → IsDone pool 0 0 n → ⊥
     nowhere n (inl low) = omega arith
     nowhere zero (inr at) = let l = at.0 in omega (arith, l)
@@ -75,6 +76,7 @@ built_level pool level table g low is = record {
     up : (m : ℕ) → IsDone pool level (length pool) m → IsDone pool (level + 1) 0 m
     up m (inl h) = inl (omega arith)
     up m (inr h) = let l = h.0 in inl (omega (arith, l))
+
     down : (m : ℕ) → IsDone pool (level + 1) 0 m → IsDone pool level (length pool) m
     down m (inl h) = split (cases_lt (level_at (entry_of pool m)) level)
       where
@@ -90,6 +92,7 @@ built_last pool table g is = enters_as pool (IsDone pool 4 0) (IsIn pool) g with
     within : (m : ℕ) → IsDone pool 4 0 m → IsIn pool m
     within m (inl h) = entry_within pool m (omega arith)
     within m (inr h) = let l = h.1 in omega (arith, l)
+
     usable_done : (m : ℕ) (c : Const) → constant_of pool m ≡ Some c → IsDone pool 4 0 m
     usable_done m c h =
         let t = then_some (constant_in pool) (entry_of pool m) c h in
@@ -126,6 +129,7 @@ module _ (pool : List PoolEntry) (level last : ℕ) (e : PoolEntry) (here : entr
       to : (m : ℕ) → IsDone pool level last m → IsDone pool level (last + 1) m
       to m (inl l) = inl l
       to m (inr l) = let p = l.0 in let q = l.1 in inr (p, omega (arith, q))
+
       from : (m : ℕ) → IsDone pool level (last + 1) m → IsDone pool level last m
       from m (inl l) = inl l
       from m (inr l) = let p = l.0 in let q = l.1 in elim (cases_lt last m) [

@@ -1,12 +1,12 @@
 -- A table of facts tells of the text with each number.
-use Rattle.std.proofs.Common.{◌≡◌, ℕ, zero, suc, Bool, true, false, List, [], ◌∷◌, ◌++◌, Option, Some, None, refl, sym, ap, ◌∙◌, ◌+◌, ◌-◌, ◌<◌, ◌≤◌, length, get_or, ltb, Bor, arith, ◌↔◌}
+use Rattle.std.proofs.Common.{◌≡◌, ℕ, zero, suc, List, [], ◌∷◌, ◌++◌, Option, Some, None, refl, sym, ap, ◌∙◌, ◌-◌, ◌<◌, ◌≤◌, length, get_or, ltb, Bor, arith}
 use Rattle.std.specs.Option.{option_copied, is_some, IfSome}
 use Rattle.std.proofs.lemmas.Bool.{ltb-true, ltb-false}
-use Rattle.std.specs.Prelude.{IsTrue, IsSomeAnd, slice_get}
+use Rattle.std.specs.Prelude.{slice_get}
 use Rattle.wv_base.specs.declared.class_file.PoolEntry.{PoolEntry}
 use Rattle.wv_base.specs.declared.class_file.PoolEntry.TheVariants as entries
 use Rattle.wv_pool.specs.declared.facts.Facts.{Facts}
-use Rattle.wv_pool.specs.References.{entry_of, text_in, text_of}
+use Rattle.wv_pool.specs.References.{text_in, text_of}
 use Rattle.wv_pool.specs.Facts.{AreFacts, AreEntryFacts, AreAllFacts, slot_of, facts_in, facts_of}
 
 pub AreAllFacts-push : (pool : List PoolEntry) (all : List (Option Facts)) (entry : PoolEntry) (facts : Option Facts) → AreAllFacts pool all → AreEntryFacts entry facts → AreAllFacts (pool ++ entry ∷ []) (all ++ facts ∷ [])

@@ -1,23 +1,22 @@
 -- Where the bytes of a pool first fail.
-use Rattle.std.proofs.Common.{◌≡◌, ℕ, zero, suc, ◌+◌, ◌-◌, ◌*◌, ◌^◌, ◌<◌, ◌≤◌, Bool, true, false, cond, ltb, eqb, pos, List, [], ◌∷◌, ◌++◌, length, get_or, take, drop, Result, Ok, Err, refl, sym, ap, subst, ◌∙◌, ◌⊎◌, inl, inr, append_assoc, arith, lit<}
-use Rattle.std.specs.Prelude.{◌==◌, ◌&&◌, ◌||◌, nat_lt, replicate}
+use Rattle.std.proofs.Common.{◌≡◌, ℕ, zero, suc, ◌+◌, ◌-◌, ◌*◌, ◌^◌, ◌<◌, ◌≤◌, Bool, true, false, cond, ltb, List, [], ◌∷◌, ◌++◌, length, get_or, take, drop, Result, Ok, Err, refl, sym, ap, subst, ◌∙◌, ◌⊎◌, inl, inr, append_assoc, arith, lit<}
+use Rattle.std.specs.Prelude.{◌==◌, ◌&&◌, ◌||◌, replicate}
 use Rattle.std.specs.List.{flat_map}
-use Rattle.std.specs.Int.{w16, from_be_bytes}
-use Rattle.std.proofs.lemmas.Bool.{ltb-false, ltb-true, le-ltb, eqb-true, cases_lt, cases_Bool}
-use Rattle.std.proofs.lemmas.List.{take_at, drop_at, take-append-drop, length-append, length-take, length-drop, append-nil, take-take, length-replicate, take_all, get_or-replicate, get_or_past, nil_from_length}
+use Rattle.std.proofs.lemmas.Bool.{ltb-false, ltb-true, eqb-true, cases_lt}
+use Rattle.std.proofs.lemmas.List.{take-append-drop, length-append, length-take, append-nil, take-take, length-replicate, take_all, get_or-replicate, get_or_past, nil_from_length}
 use Rattle.std.proofs.lemmas.List.Concat.{flat_map-cons}
 use Rattle.std.proofs.Math.Seq.{take-append-add}
 use Rattle.wv_base.specs.declared.class_file.PoolEntry.{PoolEntry}
 use Rattle.wv_base.specs.declared.class_file.PoolEntry.TheVariants as entries
 use Rattle.wv_base.specs.Modified.{spelling, IsName, IsFault}
 use Rattle.wv_base.specs.ModifiedReading.{name_in}
-use Rattle.wv_base.proofs.NameSpelling.{is_exact, reads_it}
-use Rattle.wv_pool.specs.Reading.{◌>>=◌, fixed, number, text_place, text_found, text_behind, is_wide, plain_behind, entry_at, slot_at, slots_in, pool_at}
+use Rattle.wv_base.proofs.NameSpelling.{reads_it}
+use Rattle.wv_pool.specs.Reading.{◌>>=◌, fixed, number, text_place, text_found, text_behind, is_wide, plain_behind, entry_at, slots_in, pool_at}
 use Rattle.wv_pool.specs.Entries.{number_bytes, entry_bytes, IsEntry, AreSlots, IsLayout, pool_bytes}
-use Rattle.wv_pool.specs.Layout.{StartsWithPool, BeginsPool, IsLayoutFault}
-use Rattle.wv_pool.proofs.PlainEntries.{IsBytes, IsBytes-drop, IsBytes-take, number_back, fixed_again, plain_form, Plain, of_fixed, of_none}
-use Rattle.wv_pool.proofs.Slots.{bind_ok, ok_is, number_takes, number_again_at, entry_again, entry_found, slots_again, slots_take, pool_again, pool_takes, narrow, then_ok, behind, text_entry, guard_ok}
-use Rattle.wv_pool.proofs.TextFaults.{TextBegins, TextStops, text_stops, filled, letters_spell}
+use Rattle.wv_pool.specs.Layout.{IsLayoutFault}
+use Rattle.wv_pool.proofs.PlainEntries.{IsBytes, number_back, plain_form, Plain, of_fixed, of_none}
+use Rattle.wv_pool.proofs.Slots.{bind_ok, ok_is, number_takes, number_again_at, entry_again, entry_found, pool_again, narrow, behind, text_entry, guard_ok}
+use Rattle.wv_pool.proofs.TextFaults.{TextBegins, text_stops, filled, letters_spell}
 
 -- what is read stops so many bytes before the end: the bytes up to there begin something that is spelled, and with one more they can't be read
 pub record Stops {A : Type 0} (read : List ℕ → Result (A × List ℕ) ℕ) (spelled : List ℕ → Type 0) (bytes : List ℕ) (left : ℕ) : Type 0 where

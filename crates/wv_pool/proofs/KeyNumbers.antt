@@ -1,8 +1,7 @@
 -- An index has one number for each key.
-use Rattle.std.proofs.Common.{◌≡◌, ◌⊎◌, inl, inr, ℕ, zero, suc, ℤ, pos, negsuc, Bool, true, false, cond, List, [], ◌∷◌, Option, Some, None, refl, sym, ap, subst, ◌∙◌}
+use Rattle.std.proofs.Common.{◌≡◌, ◌⊎◌, inl, inr, ℕ, zero, suc, ℤ, pos, negsuc, true, cond, List, ◌∷◌, Some, refl, sym, ap, ◌∙◌}
 use Rattle.std.specs.Prelude.{◌==◌}
 use Rattle.std.specs.Ordering.{nat_cmp, is_eq}
-use Rattle.std.specs.declared.cmp.Ordering.{Ordering}
 use Rattle.std.specs.Cmp.{Equal-is}
 use Rattle.std.specs.Cmp.Lexicographic.{slice_cmp}
 use Rattle.std.specs.FinMap.{nat_cmp-IsAntisymmetric, slice_cmp-IsAntisymmetric}
@@ -11,7 +10,7 @@ use Rattle.std.proofs.lemmas.Bool.{cases_Bool}
 use Rattle.wv_pool.specs.declared.key.Key.{Key}
 use Rattle.wv_pool.specs.declared.key.Key.TheVariants as keys
 use Rattle.wv_pool.specs.declared.index.Index.{Index}
-use Rattle.wv_pool.specs.Keys.{signed_words, words_of}
+use Rattle.wv_pool.specs.Keys.{words_of}
 use Rattle.wv_pool.specs.Index.{list_cmp, number_in, Inserts}
 
 same_list : (k q : List ℕ) → is_eq (list_cmp k q) ≡ true → q ≡ k

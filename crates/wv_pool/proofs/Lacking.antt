@@ -1,19 +1,18 @@
 -- What a pool lacks of the constants that are added, one after the other.
-use Rattle.std.proofs.Common.{◌≡◌, ℕ, ◌+◌, ◌≤◌, ◌<◌, List, [], ◌∷◌, ◌++◌, length, Option, Some, None, Result, Ok, Err, refl, sym, ap, subst, ◌∙◌, ◌⊎◌, inl, inr, arith}
+use Rattle.std.proofs.Common.{◌≡◌, ℕ, ◌+◌, ◌<◌, List, [], ◌∷◌, ◌++◌, length, Some, Result, Ok, Err, refl, sym, ap, subst, ◌∙◌, ◌⊎◌, inl, inr, arith}
 use Rattle.std.specs.Prelude.{IsErrAnd, IfOk, IfErr}
 use Rattle.std.specs.List.{AllByRecursion}
 use Rattle.std.proofs.lemmas.List.{length-append, append_assoc, append-nil}
 use Rattle.wv_base.specs.declared.class_file.PoolEntry.{PoolEntry}
 use Rattle.wv_base.specs.declared.constant.Const.{Const}
-use Rattle.wv_base.specs.declared.constant.Const.TheVariants as constants
 use Rattle.wv_pool.specs.declared.add.PoolFault.{PoolFault}
 use Rattle.wv_pool.specs.declared.add.PoolFault.TheVariants as faults
-use Rattle.wv_pool.specs.References.{IsSound, text_of}
+use Rattle.wv_pool.specs.References.{IsSound}
 use Rattle.wv_pool.specs.Constants.{constant_in, constant_of}
 use Rattle.wv_pool.specs.Numbers.{IsLeast, Named}
 use Rattle.wv_pool.specs.Adding.{slots_of, numbers_of, IsAmong, Lacks, none, named, again, lacked, AreTooMany, Keeps, Grows, Adds}
 use Rattle.wv_pool.proofs.Behind.{some_is, slots_numbers}
-use Rattle.wv_pool.proofs.Growing.{constant_grows, text_grows}
+use Rattle.wv_pool.proofs.Growing.{constant_grows}
 use Rattle.wv_pool.proofs.SoundPools.{constant_back}
 use Rattle.wv_pool.proofs.Putting.{own_number, new_number}
 
@@ -154,4 +153,3 @@ pub passed : (old new : List PoolEntry) (cs : List Const) (c : Const) (r : Resul
 passed old new cs c (Ok n) h = tt
 passed old new cs c (Err faults.Full) h = λ _. subst (AreTooMany old) (append-nil cs) (h.1 old [] (grows_start old))
 passed old new cs c (Err faults.Memory) h = λ same. absurd cc
-

@@ -1,8 +1,7 @@
 -- An index stays right when one constant more is entered.
-use Rattle.std.proofs.Common.{◌≡◌, ℕ, ◌+◌, ◌≤◌, Bool, true, false, cond, List, [], ◌∷◌, Option, Some, None, refl, sym, ap, subst, ◌∙◌, ◌⊎◌, inl, inr, arith}
+use Rattle.std.proofs.Common.{◌≡◌, ℕ, ◌≤◌, Bool, true, false, cond, List, Option, Some, None, refl, sym, ap, subst, ◌∙◌, ◌⊎◌, inl, inr, arith}
 use Rattle.std.specs.Prelude.{nat_le, IsSomeAnd}
 use Rattle.std.specs.Option.{option_map, option_and_then}
-use Rattle.std.proofs.lemmas.Bool.{cases_Bool}
 use Rattle.wv_base.specs.declared.class_file.PoolEntry.{PoolEntry}
 use Rattle.wv_base.specs.declared.constant.Const.{Const}
 use Rattle.wv_base.specs.declared.constant.Const.TheVariants as constants
@@ -10,10 +9,10 @@ use Rattle.wv_base.specs.declared.constant.MemberReference.{MemberReference}
 use Rattle.wv_pool.specs.declared.key.Key.{Key}
 use Rattle.wv_pool.specs.declared.key.Key.TheVariants as keys
 use Rattle.wv_pool.specs.References.{entry_of, text_of}
-use Rattle.wv_pool.specs.Constants.{class_name, both, named_pair, member_of, member, handle, constant_of}
+use Rattle.wv_pool.specs.Constants.{both, named_pair, member_of, member, handle, constant_of}
 use Rattle.wv_pool.specs.Index.{Inserts}
 use Rattle.wv_pool.specs.Numbers.{two, text_number, class_number, pair_number, member_key, method_key, handled_key, find_key, number_for, Mentions, Enters}
-use Rattle.wv_pool.proofs.Behind.{some_is, map_some, then_some, text_is, class_is, pair_is, field_handle, method_handle}
+use Rattle.wv_pool.proofs.Behind.{some_is, map_some, text_is, class_is, pair_is, field_handle, method_handle}
 
 pub two_some : (make : ℕ → ℕ → Key) (a b : Option ℕ) (k : Key) → two make a b ≡ Some k → (x : ℕ) × (y : ℕ) × (a ≡ Some x) × (b ≡ Some y) × (make x y ≡ k)
 two_some make (Some a) (Some b) k e = (a, b, refl, refl, some_is (make a b) k e)
@@ -267,6 +266,7 @@ module _ (pool : List PoolEntry) (entered : ℕ → Type 0) (old new : Key → O
       go_named : (d : Const) (m : ℕ) → number_for new d ≡ Some m → Settled d → (constant_of pool m ≡ Some d) × (entered m ⊎ (m ≡ n))
       go_named d m h (inl e) = let r = right.named d m (sym e ∙ h) in (r.0, inl r.1)
       go_named d m h (inr e) = let same : n ≡ m = some_is n m (sym e.1 ∙ h) in (ap (constant_of pool) (sym same) ∙ names ∙ ap (λ (x : Const). Some x) (sym e.0), inr (sym same))
+
       go_least : (d : Const) (m : ℕ) → entered m ⊎ (m ≡ n) → constant_of pool m ≡ Some d → Settled d → IsSomeAnd (number_for new d) (λ first. first ≤ m)
       go_least d m (inl is) h (inl e) = subst (λ (o : Option ℕ). IsSomeAnd o (λ first. first ≤ m)) (sym e) (right.least d m is h)
       go_least d m (inr is) h s =
@@ -274,6 +274,7 @@ module _ (pool : List PoolEntry) (entered : ℕ → Type 0) (old new : Key → O
           subst (λ (o : Option ℕ). IsSomeAnd o (λ first. first ≤ m)) (sym (ap (number_for new) same ∙ number_now)) (omega (arith, is))
       go_least d m (inl is) h (inr e) =
           absurd (subst (λ (o : Option ℕ). IsSomeAnd o (λ first. first ≤ m)) none_before (right.least c m is (h ∙ ap (λ (x : Const). Some x) e.0)))
+
       go_mentioned : (q : Key) (f m : ℕ) → new q ≡ Some f → Mentions q m → (q ≡ k) ⊎ (new q ≡ old q) → entered m ⊎ (m ≡ n)
       go_mentioned q f m h mention (inl e) = inl (parts_known pool old old_named entered (λ d m h. (right.named d m h).1) c k m found (subst (λ (r : Key). Mentions r m) e mention))
       go_mentioned q f m h mention (inr same) = inl (right.mentioned q f m (sym same ∙ h) mention)

@@ -1,15 +1,11 @@
 -- The entries of a constant whose parts have numbers.
-use Rattle.std.proofs.Common.{◌≡◌, ◌≢◌, ℕ, zero, suc, ◌+◌, ◌≤◌, ◌<◌, ◌^◌, Bool, true, false, cond, List, [], ◌∷◌, ◌++◌, length, Option, Some, None, refl, sym, ap, subst, ◌∙◌, ◌⊎◌, inl, inr, arith, get_or}
-use Rattle.std.specs.Prelude.{IsSomeAnd, IfSome, IsTrue, replicate, codes, nat_le}
-use Rattle.std.specs.Option.{option_map, option_and_then}
-use Rattle.std.specs.List.{AllByRecursion, flat_map}
+use Rattle.std.proofs.Common.{◌≡◌, ◌≢◌, ℕ, zero, suc, ◌≤◌, ◌<◌, ◌^◌, Bool, true, false, cond, List, [], ◌∷◌, Option, Some, sym, ap, subst, ◌∙◌, ◌⊎◌, inl, inr, arith, get_or}
+use Rattle.std.specs.Prelude.{IsSomeAnd, IfSome, IsTrue, nat_le}
+use Rattle.std.specs.Option.{option_map}
 use Rattle.std.proofs.lemmas.Bool.Decides.{nat_tests}
-use Rattle.wv_base.specs.declared.descriptor.Primitive.{Primitive}
 use Rattle.wv_base.specs.declared.descriptor.Primitive.TheVariants as primitives
 use Rattle.wv_base.specs.declared.descriptor.ElementType.{ElementType}
 use Rattle.wv_base.specs.declared.descriptor.ElementType.TheVariants as elements
-use Rattle.wv_base.specs.declared.descriptor.FieldType.{FieldType}
-use Rattle.wv_base.specs.declared.descriptor.MethodType.{MethodType}
 use Rattle.wv_base.specs.declared.class_file.PoolEntry.{PoolEntry}
 use Rattle.wv_base.specs.declared.class_file.PoolEntry.TheVariants as entries
 use Rattle.wv_base.specs.declared.constant.Const.{Const}
@@ -17,12 +13,12 @@ use Rattle.wv_base.specs.declared.constant.Const.TheVariants as constants
 use Rattle.wv_base.specs.declared.constant.MemberReference.{MemberReference}
 use Rattle.wv_base.specs.Modified.{IsName}
 use Rattle.wv_base.specs.Names.{is_unqualified}
-use Rattle.wv_base.specs.Descriptor.{element_descriptor, descriptor_of, method_descriptor_of, result_descriptor, IsFieldDescriptor, IsMethodDescriptor, IsClassConstant}
+use Rattle.wv_base.specs.Descriptor.{element_descriptor, descriptor_of, IsFieldDescriptor, IsMethodDescriptor, IsClassConstant}
 use Rattle.wv_pool.specs.References.{entry_of, text_of, class_of, pair_of, pair_name, IsClass, IsText, IsFieldPair, IsMethodPair, HasAngle, IsInit, IsSpecial, KindFits, IsMember, IsSound}
-use Rattle.wv_pool.specs.Constants.{class_name, both, named_pair, member_of, member, handle, constant_in, constant_of}
-use Rattle.wv_pool.specs.Allowed.{IsFieldText, IsMethodText, IsFieldReference, IsMethodReference, IsHandle}
-use Rattle.wv_pool.specs.Adding.{handled, member_needs}
-use Rattle.wv_pool.proofs.Behind.{some_is, then_some, text_is, class_is, pair_is, field_handle, method_handle, field_entry, method_entry, interface_entry}
+use Rattle.wv_pool.specs.Constants.{class_name, both, named_pair, member_of, member, constant_in, constant_of}
+use Rattle.wv_pool.specs.Allowed.{IsFieldReference, IsMethodReference, IsHandle}
+use Rattle.wv_pool.specs.Adding.{handled}
+use Rattle.wv_pool.proofs.Behind.{then_some, text_is, class_is, pair_is, field_handle, method_handle, field_entry, method_entry, interface_entry}
 use Rattle.wv_pool.proofs.Putting.{texts_some, both_some, member_some}
 
 pub are_units : (name : List ℕ) → ((i : ℕ) → get_or name i 0 < 2 ^ 16) → IsName name
@@ -106,7 +102,7 @@ module _ (pool : List PoolEntry) where
   method_pair n x y e a d =
       let t = pair_parts n x y (pair_is pool n x y e) in
       subst (λ (o : Option (ℕ × ℕ)). IsSomeAnd o (λ pair. (IsText pool pair.1 IsFieldDescriptor → ⊥) × (IsText pool pair.0 HasAngle → ⊥))) (sym t.1)
-          (λ h. one_descriptor y (text_met t.0.1 y IsFieldDescriptor t.3 h) d, λ h. a (text_met t.0.0 x HasAngle t.2 h))
+      (λ h. one_descriptor y (text_met t.0.1 y IsFieldDescriptor t.3 h) d, λ h. a (text_met t.0.0 x HasAngle t.2 h))
 
   member_named : (a b : ℕ) (m : MemberReference) → constant_of pool a ≡ Some (constants.Class m.owner) → constant_of pool b ≡ Some (constants.NameAndType m.name m.descriptor) → member pool a b ≡ Some m
   member_named a b m e f = ap (λ (o : Option (List ℕ)). member_of o (named_pair pool b)) (class_is pool a m.owner e) ∙ ap (member_of (Some m.owner)) (pair_is pool b m.name m.descriptor f)

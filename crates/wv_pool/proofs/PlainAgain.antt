@@ -1,15 +1,14 @@
 -- An entry other than a text is read again.
-use Rattle.std.proofs.Common.{◌≡◌, ℕ, ℤ, suc, ◌+◌, ◌^◌, ◌<◌, List, [], ◌∷◌, ◌++◌, length, take, drop, Result, Ok, Err, refl, sym, ap, ◌∙◌, arith}
+use Rattle.std.proofs.Common.{◌≡◌, ℕ, ℤ, ◌^◌, ◌<◌, List, ◌∷◌, ◌++◌, length, drop, Ok, refl, ap, ◌∙◌, arith}
 use Rattle.std.specs.Prelude.{slice_index, FitsSigned}
-use Rattle.std.specs.Int.{w16, w32, w64, from_be_bytes, to_be_bytes, cast_signed, cast_unsigned}
-use Rattle.std.proofs.lemmas.List.{take_at, drop_at}
+use Rattle.std.specs.Int.{w32, w64, from_be_bytes, to_be_bytes, cast_signed, cast_unsigned}
 use Rattle.std.proofs.lemmas.Nat.{from_be_bytes-to_be_bytes_2, from_be_bytes-to_be_bytes_4, from_be_bytes-to_be_bytes_8}
 use Rattle.std.proofs.lemmas.Int.{to_z-of_z}
 use mir.ValLaws.{of_z_fits}
 use Rattle.wv_base.specs.declared.class_file.PoolEntry.{PoolEntry}
 use Rattle.wv_base.specs.declared.class_file.PoolEntry.TheVariants as entries
 use Rattle.wv_pool.specs.Reading.{fixed, number, first, second, plain_behind}
-use Rattle.wv_pool.specs.Entries.{number_bytes, entry_bytes, IsEntry}
+use Rattle.wv_pool.specs.Entries.{number_bytes, entry_bytes}
 use Rattle.wv_pool.proofs.PlainEntries.{fixed_again, is_integer, is_float, is_long, is_double, is_class, is_string, is_field, is_method, is_interface_method, is_name_and_type, is_method_handle, is_method_type, is_invoke_dynamic}
 
 pub number_again : (n : ℕ) → n < 2 ^ 16 → number (number_bytes n) ≡ n

@@ -1,12 +1,12 @@
 -- The entries other than texts: what is read was spelled so, and what is spelled so is read.
-use Rattle.std.proofs.Common.{◌≡◌, inl, inr, ℕ, zero, suc, ◌+◌, ◌-◌, ◌^◌, ◌<◌, ◌≤◌, Bool, true, false, cond, ltb, eqb, List, [], ◌∷◌, ◌++◌, length, get_or, take, drop, Result, Ok, Err, refl, sym, ap, subst, ◌∙◌, append_assoc, arith}
-use Rattle.std.specs.Prelude.{◌==◌, slice_index}
-use Rattle.std.specs.Int.{w16, w32, w64, from_be_bytes, to_be_bytes, cast_signed, cast_unsigned}
+use Rattle.std.proofs.Common.{◌≡◌, inl, inr, ℕ, zero, suc, ◌+◌, ◌^◌, ◌<◌, ◌≤◌, Bool, true, false, cond, ltb, List, [], ◌∷◌, ◌++◌, length, get_or, take, drop, Result, Ok, Err, refl, sym, ap, ◌∙◌, arith}
+use Rattle.std.specs.Prelude.{slice_index}
+use Rattle.std.specs.Int.{w32, w64, from_be_bytes, to_be_bytes, cast_signed}
 use Rattle.std.proofs.lemmas.Bool.{ltb-false, le-ltb, ne_eqb}
 use Rattle.std.proofs.lemmas.List.{take_at, drop_at, take-append-drop, length-append, length-take, length-drop, get_or-drop, get_or-take, get_or_past}
 use Rattle.std.proofs.lemmas.Bool.{cases_lt}
-use Rattle.std.proofs.lemmas.Nat.{be_bytes_2, be_bytes_4, be_bytes_8, from_be_bytes-to_be_bytes_2, from_be_bytes-to_be_bytes_4, from_be_bytes-to_be_bytes_8}
-use Rattle.std.proofs.lemmas.Int.{to_z-of_z, of_z-to_z}
+use Rattle.std.proofs.lemmas.Nat.{be_bytes_2, be_bytes_4, be_bytes_8}
+use Rattle.std.proofs.lemmas.Int.{of_z-to_z}
 use borrow.Author.Gap.{read_sfits}
 use Rattle.wv_base.specs.declared.class_file.PoolEntry.{PoolEntry}
 use Rattle.wv_base.specs.declared.class_file.PoolEntry.TheVariants as entries

@@ -1,11 +1,10 @@
 -- What the calls that read a pool answer.
-use Rattle.std.proofs.Common.{◌≡◌, ℕ, ◌+◌, ◌-◌, ◌≤◌, List, [], ◌∷◌, ◌++◌, length, take, drop, Result, Ok, Err, refl, sym, ap, subst, ◌∙◌, inl, inr, arith}
+use Rattle.std.proofs.Common.{◌≡◌, ℕ, ◌+◌, ◌-◌, ◌≤◌, List, [], ◌∷◌, ◌++◌, length, take, Result, Ok, Err, refl, sym, ap, subst, ◌∙◌, inl, inr, arith}
 use Rattle.std.specs.List.{AllByRecursion}
-use Rattle.std.proofs.lemmas.List.{take_at, take-append-drop, length-append}
+use Rattle.std.proofs.lemmas.List.{take_at, length-append}
 use Rattle.wv_base.specs.declared.class_file.PoolEntry.{PoolEntry}
 use Rattle.wv_pool.specs.Reading.{pool_at}
 use Rattle.wv_pool.specs.Entries.{IsLayout, pool_bytes}
-use Rattle.wv_pool.specs.Layout.{IsLayoutFault}
 use Rattle.wv_pool.specs.References.{IsSound, BreaksAt, FirstBreaks, IsPool}
 use Rattle.wv_pool.proofs.PlainEntries.{IsBytes}
 use Rattle.wv_pool.proofs.Slots.{pool_takes, pool_again, ok_is}

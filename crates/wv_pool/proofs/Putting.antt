@@ -1,5 +1,5 @@
 -- Putting a constant that no number names yet.
-use Rattle.std.proofs.Common.{◌≡◌, ◌≢◌, ℕ, zero, suc, ◌+◌, ◌≤◌, ◌<◌, ◌-◌, ◌^◌, Bool, true, false, cond, List, [], ◌∷◌, ◌++◌, length, Option, Some, None, refl, sym, ap, subst, ◌∙◌, ◌⊎◌, inl, inr, arith, add-one, lit≤}
+use Rattle.std.proofs.Common.{◌≡◌, ℕ, zero, suc, ◌+◌, ◌≤◌, ◌<◌, ◌-◌, Bool, true, false, cond, List, [], ◌∷◌, ◌++◌, length, Option, Some, None, refl, sym, ap, subst, ◌∙◌, ◌⊎◌, inl, inr, arith, add-one, lit≤}
 use Rattle.std.specs.Prelude.{slice_get, IsSomeAnd, IfSome, IfNone, nat_le, unwrap_or}
 use Rattle.std.specs.Option.{option_map, option_and_then}
 use Rattle.std.specs.List.{AllByRecursion}
@@ -14,16 +14,16 @@ use Rattle.wv_base.specs.declared.constant.MemberReference.{MemberReference}
 use Rattle.wv_pool.specs.declared.key.Key.{Key}
 use Rattle.wv_pool.specs.declared.key.Key.TheVariants as keys
 use Rattle.wv_pool.specs.Reading.{is_wide}
-use Rattle.wv_pool.specs.Entries.{IsEntry, IsLayout}
-use Rattle.wv_pool.specs.References.{entry_of, text_in, text_of, class_in, class_of, pair_in, pair_of, IsMember, KindFits, IsSound, IsPool}
+use Rattle.wv_pool.specs.Entries.{IsEntry}
+use Rattle.wv_pool.specs.References.{entry_of, text_in, text_of, class_of, pair_of, KindFits, IsSound, IsPool}
 use Rattle.wv_pool.specs.Constants.{class_name, both, pair_texts, named_pair, member_of, member, handle, constant_in, constant_of}
 use Rattle.wv_pool.specs.Index.{Inserts}
-use Rattle.wv_pool.specs.Numbers.{two, text_number, class_number, pair_number, member_key, method_key, handled_key, find_key, number_for, Mentions, IsIn, Enters, IsLeast, Named}
+use Rattle.wv_pool.specs.Numbers.{two, text_number, class_number, pair_number, member_key, method_key, handled_key, find_key, number_for, IsIn, Enters, IsLeast, Named}
 use Rattle.wv_pool.specs.Adding.{slots_of}
 use Rattle.wv_pool.specs.Building.{level_in, level_at, key_with}
 use Rattle.wv_pool.proofs.Behind.{some_is, map_some, then_some}
 use Rattle.wv_pool.proofs.Growing.{constant_grows, constant_in_grows}
-use Rattle.wv_pool.proofs.SoundPools.{some_and, pair_entry, class_entry, sound_at, constant_back, pool_grows}
+use Rattle.wv_pool.proofs.SoundPools.{some_and, pair_entry, class_entry, constant_back, pool_grows}
 use Rattle.wv_pool.proofs.Numbering.{enters}
 
 get_within : {X : Type 0} (xs : List X) (i : ℕ) (x : X) → slice_get xs i ≡ Some x → i < length xs
@@ -289,6 +289,7 @@ enters_more pool e c old new k sound is right found free inserts =
         go : (b : Bool) → 1 ≤ length (cond b (e ∷ entries.Unusable ∷ []) (e ∷ []))
         go true = omega arith
         go false = omega arith
+
     within : (a b m : ℕ) → a + 1 ≤ b → (m ≤ a) ⊎ (m ≡ a + 1) → m ≤ b
     within a b m h (inl le) = omega arith
     within a b m h (inr e) = omega arith

@@ -1,17 +1,16 @@
 -- What is read as a pool was spelled so, and what is spelled so is read.
-use Rattle.std.proofs.Common.{◌≡◌, ℕ, zero, suc, ◌+◌, ◌-◌, ◌^◌, ◌<◌, ◌≤◌, Bool, true, false, cond, ltb, eqb, List, [], ◌∷◌, ◌++◌, length, take, drop, Result, Ok, Err, refl, sym, ap, subst, ◌∙◌, append_assoc, arith}
-use Rattle.std.specs.Prelude.{◌==◌, ◌&&◌, ◌||◌, nat_lt}
+use Rattle.std.proofs.Common.{◌≡◌, ℕ, zero, suc, ◌+◌, ◌-◌, ◌^◌, ◌<◌, ◌≤◌, Bool, true, false, cond, ltb, List, [], ◌∷◌, ◌++◌, length, take, drop, Result, Ok, Err, refl, sym, ap, subst, ◌∙◌, append_assoc, arith}
+use Rattle.std.specs.Prelude.{◌==◌, ◌&&◌, ◌||◌}
 use Rattle.std.specs.List.{flat_map}
-use Rattle.std.specs.Int.{w16, from_be_bytes}
 use Rattle.std.proofs.lemmas.Bool.{ltb-false, le-ltb, eqb-true, ne_eqb}
-use Rattle.std.proofs.lemmas.List.{take_at, drop_at, take-append-drop, length-append, length-take, length-drop, append-nil}
+use Rattle.std.proofs.lemmas.List.{take_at, drop_at, take-append-drop, length-append, length-take}
 use Rattle.std.proofs.lemmas.List.Concat.{flat_map-cons}
 use Rattle.wv_base.specs.declared.class_file.PoolEntry.{PoolEntry}
 use Rattle.wv_base.specs.declared.class_file.PoolEntry.TheVariants as entries
 use Rattle.wv_base.specs.Modified.{spelling, IsName}
 use Rattle.wv_base.specs.ModifiedReading.{name_in}
 use Rattle.wv_base.proofs.NameSpelling.{is_exact, reads_it}
-use Rattle.wv_pool.specs.Reading.{◌>>=◌, fixed, number, text_place, text_found, text_behind, is_wide, plain_behind, entry_at, slot_at, slots_in, pool_at}
+use Rattle.wv_pool.specs.Reading.{◌>>=◌, fixed, number, text_found, text_behind, is_wide, plain_behind, entry_at, slots_in, pool_at}
 use Rattle.wv_pool.specs.Entries.{number_bytes, entry_bytes, IsEntry, AreSlots, IsLayout, pool_bytes}
 use Rattle.wv_pool.proofs.PlainEntries.{IsBytes, IsBytes-drop, IsBytes-take, number_back, fixed_again, plain_found}
 use Rattle.wv_pool.proofs.PlainAgain.{number_again, IsPlain, integer_again, float_again, long_again, double_again, class_again, string_again, field_again, method_again, interface_method_again, name_and_type_again, method_handle_again, method_type_again, invoke_dynamic_again}

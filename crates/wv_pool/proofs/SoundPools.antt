@@ -1,9 +1,8 @@
 -- A sound pool stays sound when a sound entry is added at its end.
-use Rattle.std.proofs.Common.{◌≡◌, ◌≢◌, ℕ, zero, suc, ◌+◌, ◌≤◌, ◌<◌, ◌^◌, Bool, true, false, cond, List, [], ◌∷◌, ◌++◌, length, Option, Some, None, refl, sym, ap, subst, ◌∙◌, ◌⊎◌, inl, inr, arith}
+use Rattle.std.proofs.Common.{◌≡◌, ◌≢◌, ℕ, zero, suc, ◌+◌, ◌≤◌, ◌<◌, ◌^◌, Bool, true, false, cond, List, [], ◌∷◌, ◌++◌, length, Option, Some, None, refl, sym, ap, subst, ◌∙◌, ◌⊎◌, arith}
 use Rattle.std.specs.Prelude.{slice_get, IsSomeAnd, IfSome, IsTrue}
 use Rattle.std.specs.Option.{option_map, option_and_then}
 use Rattle.std.specs.List.{AllByRecursion}
-use Rattle.std.proofs.lemmas.List.{length-append}
 use Rattle.wv_base.specs.declared.class_file.PoolEntry.{PoolEntry}
 use Rattle.wv_base.specs.declared.class_file.PoolEntry.TheVariants as entries
 use Rattle.wv_base.specs.declared.constant.Const.{Const}
@@ -12,12 +11,12 @@ use Rattle.wv_base.specs.declared.constant.MemberReference.{MemberReference}
 use Rattle.wv_base.specs.Names.{is_unqualified}
 use Rattle.wv_base.specs.Descriptor.{IsFieldDescriptor, IsMethodDescriptor, IsClassConstant}
 use Rattle.wv_pool.specs.Reading.{is_wide}
-use Rattle.wv_pool.specs.Entries.{IsEntry, AreSlots, IsLayout}
-use Rattle.wv_pool.specs.References.{entry_of, text_in, text_of, class_in, class_of, pair_in, pair_of, pair_name, IsClass, IsText, IsFieldPair, IsMethodPair, HasAngle, IsInit, IsSpecial, KindFits, IsMember, FirstHolds, SecondHolds, IsSound, IsPool}
+use Rattle.wv_pool.specs.Entries.{IsEntry, AreSlots}
+use Rattle.wv_pool.specs.References.{entry_of, text_of, class_in, class_of, pair_in, pair_of, pair_name, IsClass, IsText, IsFieldPair, IsMethodPair, HasAngle, IsInit, IsSpecial, KindFits, IsMember, IsSound, IsPool}
 use Rattle.wv_pool.specs.Constants.{class_name, both, pair_texts, named_pair, member_of, member, handle, constant_in, constant_of}
 use Rattle.wv_pool.specs.Adding.{slots_of}
-use Rattle.wv_pool.proofs.Behind.{some_is, then_some}
-use Rattle.wv_pool.proofs.Growing.{entry_grows, text_grows, class_grows, pair_grows, constant_in_grows, constant_grows}
+use Rattle.wv_pool.proofs.Behind.{some_is}
+use Rattle.wv_pool.proofs.Growing.{entry_grows, text_grows, class_grows, pair_grows, constant_grows}
 
 pub some_and : {A : Type 0} (o : Option A) (P : A → Type 0) → IsSomeAnd o P → (a : A) × (o ≡ Some a) × P a
 some_and None P h = absurd h
@@ -160,14 +159,14 @@ module _ (pool : List PoolEntry) (sound : AllByRecursion (IsSound pool) pool) wh
         let s = some_and (pair_of pool n) (λ pair. IsText pool pair.1 IsMethodDescriptor → ⊥) h in
         let t = pair_text n s.0 s.1 in
         subst (λ (o : Option (ℕ × ℕ)). IsSomeAnd o (λ pair. IsText (pool ++ more) pair.1 IsMethodDescriptor → ⊥)) (sym (pair_grows pool more n s.0 s.1))
-            (λ now. s.2 (text_held s.0.1 t.1 IsMethodDescriptor t.3 now))
+        (λ now. s.2 (text_held s.0.1 t.1 IsMethodDescriptor t.3 now))
 
     method_pair_holds : (n : ℕ) → IsMethodPair pool n → IsMethodPair (pool ++ more) n
     method_pair_holds n h =
         let s = some_and (pair_of pool n) (λ pair. (IsText pool pair.1 IsFieldDescriptor → ⊥) × (IsText pool pair.0 HasAngle → ⊥)) h in
         let t = pair_text n s.0 s.1 in
         subst (λ (o : Option (ℕ × ℕ)). IsSomeAnd o (λ pair. (IsText (pool ++ more) pair.1 IsFieldDescriptor → ⊥) × (IsText (pool ++ more) pair.0 HasAngle → ⊥))) (sym (pair_grows pool more n s.0 s.1))
-            (λ now. s.2.0 (text_held s.0.1 t.1 IsFieldDescriptor t.3 now), λ now. s.2.1 (text_held s.0.0 t.0 HasAngle t.2 now))
+        (λ now. s.2.0 (text_held s.0.1 t.1 IsFieldDescriptor t.3 now), λ now. s.2.1 (text_held s.0.0 t.0 HasAngle t.2 now))
 
     name_holds : (n : ℕ) → IsMethodPair pool n → pair_name (pool ++ more) (pair_of (pool ++ more) n) ≡ pair_name pool (pair_of pool n)
     name_holds n h =
@@ -247,11 +246,12 @@ slots_sound pool e h = go (is_wide e)
     go false = (h, tt)
 
 pub pool_grows : (pool : List PoolEntry) (e : PoolEntry) → IsPool pool → IsEntry e → IsSound pool e → length (pool ++ slots_of e) + 1 < 2 ^ 16 → IsPool (pool ++ slots_of e)
-pool_grows pool e is entry sound few =
-    ((few, slots_append false pool (slots_of e) is.0.1 (slots_alone e entry)),
-     all_append (IsSound (pool ++ slots_of e)) pool (slots_of e)
-        (all_map (IsSound pool) (IsSound (pool ++ slots_of e)) (sound_grows pool is.1 (slots_of e)) pool is.1)
-        (slots_sound (pool ++ slots_of e) e (sound_grows pool is.1 (slots_of e) e sound)))
+pool_grows pool e is entry sound few = (
+  (few, slots_append false pool (slots_of e) is.0.1 (slots_alone e entry)),
+  all_append (IsSound (pool ++ slots_of e)) pool (slots_of e)
+      (all_map (IsSound pool) (IsSound (pool ++ slots_of e)) (sound_grows pool is.1 (slots_of e)) pool is.1)
+      (slots_sound (pool ++ slots_of e) e (sound_grows pool is.1 (slots_of e) e sound)),
+)
 
 -- of a number that was there already the constant stays
 pub constant_back : (pool more : List PoolEntry) (n : ℕ) (c : Const) → AllByRecursion (IsSound pool) pool → n ≤ length pool → constant_of (pool ++ more) n ≡ Some c → constant_of pool n ≡ Some c
@@ -262,11 +262,13 @@ constant_back pool more (suc place) c sound le h = go (slice_get pool place) ref
     within [] ys i lt e = omega arith
     within (x ∷ xs) ys zero lt e = absurd cc
     within (x ∷ xs) ys (suc i) lt e = within xs ys i (omega arith) e
+
     usable : (e : PoolEntry) → slice_get pool place ≡ Some e → e ≡ entries.Unusable → ⊥
     usable e is u =
         let later = entry_grows pool more (suc place) e is in
         let never : None ≡ Some c = sym (ap (option_and_then (constant_in (pool ++ more))) (later ∙ ap (λ (x : PoolEntry). Some x) u)) ∙ h in
         absurd cc
+
     go : (o : Option PoolEntry) → slice_get pool place ≡ o → constant_of pool (suc place) ≡ Some c
     go None e = absurd (within pool more place le e)
     go (Some e) is =

@@ -1,8 +1,8 @@
 -- What the grammars say of the texts of a pool.
-use Rattle.std.specs.Prelude.{◌≡◌, ℕ, zero, suc, List, [], ◌∷◌, Option, Some, None, IsTrue, ◌↔◌, codes, slice_get, ◌⊎◌}
+use Rattle.std.specs.Prelude.{◌≡◌, ℕ, zero, suc, List, [], ◌∷◌, Option, Some, None, IsTrue, ◌↔◌, slice_get, ◌⊎◌}
 use Rattle.wv_base.specs.declared.class_file.PoolEntry.{PoolEntry}
 use Rattle.wv_base.specs.declared.class_file.PoolEntry.TheVariants as entries
-use Rattle.wv_base.specs.Names.{is_unqualified, is_method_name}
+use Rattle.wv_base.specs.Names.{is_unqualified}
 use Rattle.wv_base.specs.Descriptor.{IsFieldDescriptor, IsMethodDescriptor, IsClassConstant}
 use Rattle.wv_pool.specs.declared.facts.Facts.{Facts}
 use Rattle.wv_pool.specs.declared.facts.Grammar.{Grammar}

@@ -1,7 +1,7 @@
 -- Reading entries from left to right (JVM Specification 4.4). A fault is the number of bytes that are left from it on.
 -- That this is the reading of the entries' spelling and of no other bytes, the laws of `read_layout` say.
 use Rattle.std.specs.Prelude.{◌≡◌, ℕ, zero, suc, ◌+◌, ◌-◌, Bool, true, false, ◌==◌, ◌||◌, ◌&&◌, nat_lt, nat_le, if◌then◌else◌, List, [], ◌∷◌, length, take, drop, slice_index, Result, Ok, Err}
-use Rattle.std.specs.Int.{Width, w16, w32, w64, from_be_bytes, cast_signed}
+use Rattle.std.specs.Int.{w16, w32, w64, from_be_bytes, cast_signed}
 use Rattle.wv_base.specs.declared.class_file.PoolEntry.{PoolEntry}
 use Rattle.wv_base.specs.declared.class_file.PoolEntry.TheVariants as entries
 use Rattle.wv_base.specs.ModifiedReading.{name_in}

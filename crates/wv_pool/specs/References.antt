@@ -1,11 +1,11 @@
 -- What the numbers of a pool's entries must name (JVM Specification 4.4), and which is the first that doesn't.
-use Rattle.std.specs.Prelude.{◌≡◌, ◌≢◌, ℕ, zero, suc, ◌+◌, ◌<◌, ◌≤◌, List, [], ◌∷◌, ◌++◌, length, slice_get, Option, Some, None, IfSome, IsSomeAnd, IsTrue, codes, ◌⊎◌}
+use Rattle.std.specs.Prelude.{◌≡◌, ◌≢◌, ℕ, zero, suc, ◌+◌, ◌≤◌, List, ◌∷◌, ◌++◌, length, slice_get, Option, Some, None, IfSome, IsSomeAnd, IsTrue, codes, ◌⊎◌}
 use Rattle.std.specs.List.{flat_map, AllByRecursion}
 use Rattle.wv_base.specs.declared.class_file.PoolEntry.{PoolEntry}
 use Rattle.wv_base.specs.declared.class_file.PoolEntry.TheVariants as entries
 use Rattle.wv_base.specs.Names.{is_unqualified, is_method_name}
 use Rattle.wv_base.specs.Descriptor.{IsFieldDescriptor, IsMethodDescriptor, IsClassConstant}
-use Rattle.wv_pool.specs.Entries.{entry_bytes, IsLayout, pool_bytes}
+use Rattle.wv_pool.specs.Entries.{entry_bytes, IsLayout}
 
 -- the entry with the number; none has number 0
 abbrev pub entry_of : List PoolEntry → ℕ → Option PoolEntry

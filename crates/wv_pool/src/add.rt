@@ -58,8 +58,7 @@ impl<T: Drop> From<AllocFailed<T>> for PoolFault {
 /// Units have 16 bits each.
 fn are_units(units: &[u16])
     ensures { IsName units.now }
-{
-}
+{}
 
 impl Pool {
     fn add_text(&mut self, name: &Name) -> Result<u16, PoolFault>
@@ -102,7 +101,13 @@ impl Pool {
         let class = self.add_class(&member.owner)?;
         let name_and_type = self.add_pair(&member.name, &member.descriptor)?;
         let constant = Const::Field(member.copy()?);
-        self.put(&constant, PoolEntry::Field { class, name_and_type })
+        self.put(
+            &constant,
+            PoolEntry::Field {
+                class,
+                name_and_type,
+            },
+        )
     }
 
     fn add_method(&mut self, member: &MemberReference, interface: bool) -> Result<u16, PoolFault>
@@ -112,16 +117,36 @@ impl Pool {
         let class = self.add_class(&member.owner)?;
         let name_and_type = self.add_pair(&member.name, &member.descriptor)?;
         let reference = member.copy()?;
-        let constant = Const::Method { reference, interface };
+        let constant = Const::Method {
+            reference,
+            interface,
+        };
         if interface {
-            self.put(&constant, PoolEntry::InterfaceMethod { class, name_and_type })
+            self.put(
+                &constant,
+                PoolEntry::InterfaceMethod {
+                    class,
+                    name_and_type,
+                },
+            )
         } else {
-            self.put(&constant, PoolEntry::Method { class, name_and_type })
+            self.put(
+                &constant,
+                PoolEntry::Method {
+                    class,
+                    name_and_type,
+                },
+            )
         }
     }
 
     /// What a handle of the kind names.
-    fn add_handled(&mut self, kind: u8, member: &MemberReference, interface: bool) -> Result<u16, PoolFault>
+    fn add_handled(
+        &mut self,
+        kind: u8,
+        member: &MemberReference,
+        interface: bool,
+    ) -> Result<u16, PoolFault>
         requires { IsHandle kind member.now interface }
         ensures { Adds self.old self.new (handled kind member.now interface ∷ member_needs member.now) (handled kind member.now interface) result }
     {
@@ -149,19 +174,42 @@ impl Pool {
                 self.put(constant, PoolEntry::String { text })
             }
             Const::Field(member) => self.add_field(member),
-            Const::Method { reference, interface } => self.add_method(reference, *interface),
+            Const::Method {
+                reference,
+                interface,
+            } => self.add_method(reference, *interface),
             Const::NameAndType { name, descriptor } => self.add_pair(name, descriptor),
-            Const::MethodHandle { kind, reference, interface } => {
+            Const::MethodHandle {
+                kind,
+                reference,
+                interface,
+            } => {
                 let reference = self.add_handled(*kind, reference, *interface)?;
-                self.put(constant, PoolEntry::MethodHandle { kind: *kind, reference })
+                self.put(
+                    constant,
+                    PoolEntry::MethodHandle {
+                        kind: *kind,
+                        reference,
+                    },
+                )
             }
             Const::MethodType(descriptor) => {
                 let descriptor = self.add_text(descriptor)?;
                 self.put(constant, PoolEntry::MethodType { descriptor })
             }
-            Const::InvokeDynamic { bootstrap, name, descriptor } => {
+            Const::InvokeDynamic {
+                bootstrap,
+                name,
+                descriptor,
+            } => {
                 let name_and_type = self.add_pair(name, descriptor)?;
-                self.put(constant, PoolEntry::InvokeDynamic { bootstrap: *bootstrap, name_and_type })
+                self.put(
+                    constant,
+                    PoolEntry::InvokeDynamic {
+                        bootstrap: *bootstrap,
+                        name_and_type,
+                    },
+                )
             }
         }
     }

@@ -103,7 +103,9 @@ pub fn is_allowed(constant: &Const) -> bool
         } => is_handle(*kind, reference, *interface),
         Const::MethodType(descriptor) => is_short(descriptor) && is_method_descriptor(descriptor),
         Const::InvokeDynamic {
-            name, descriptor, ..
+            name,
+            descriptor,
+            ..
         } => is_method_text(name, descriptor),
         Const::Integer(_) | Const::Float(_) | Const::Long(_) | Const::Double(_) => true,
     }

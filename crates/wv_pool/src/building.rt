@@ -53,15 +53,18 @@ fn entry_key(firsts: &[u16], entry: &PoolEntry) -> Result<Option<Key>, Memory>
         PoolEntry::Double(bits) => Key::Double(*bits),
         PoolEntry::Class { name } => Key::Class(first(firsts, *name)),
         PoolEntry::String { text } => Key::String(first(firsts, *text)),
-        PoolEntry::Field { class, name_and_type } => {
-            Key::Field(first(firsts, *class), first(firsts, *name_and_type))
-        }
-        PoolEntry::Method { class, name_and_type } => {
-            Key::Method(first(firsts, *class), first(firsts, *name_and_type))
-        }
-        PoolEntry::InterfaceMethod { class, name_and_type } => {
-            Key::InterfaceMethod(first(firsts, *class), first(firsts, *name_and_type))
-        }
+        PoolEntry::Field {
+            class,
+            name_and_type,
+        } => { Key::Field(first(firsts, *class), first(firsts, *name_and_type)) }
+        PoolEntry::Method {
+            class,
+            name_and_type,
+        } => { Key::Method(first(firsts, *class), first(firsts, *name_and_type)) }
+        PoolEntry::InterfaceMethod {
+            class,
+            name_and_type,
+        } => { Key::InterfaceMethod(first(firsts, *class), first(firsts, *name_and_type)) }
         PoolEntry::NameAndType { name, descriptor } => {
             Key::NameAndType(first(firsts, *name), first(firsts, *descriptor))
         }
@@ -69,15 +72,21 @@ fn entry_key(firsts: &[u16], entry: &PoolEntry) -> Result<Option<Key>, Memory>
             Key::MethodHandle(*kind, first(firsts, *reference))
         }
         PoolEntry::MethodType { descriptor } => Key::MethodType(first(firsts, *descriptor)),
-        PoolEntry::InvokeDynamic { bootstrap, name_and_type } => {
-            Key::InvokeDynamic(*bootstrap, first(firsts, *name_and_type))
-        }
+        PoolEntry::InvokeDynamic {
+            bootstrap,
+            name_and_type,
+        } => { Key::InvokeDynamic(*bootstrap, first(firsts, *name_and_type)) }
         PoolEntry::Unusable => return Ok(None),
     }))
 }
 
 /// Enters the numbers whose entries stand on this many others.
-fn enter_level(pool: &[PoolEntry], level: u8, firsts: &mut Vec<u16>, index: &mut Index) -> Result<(), Memory>
+fn enter_level(
+    pool: &[PoolEntry],
+    level: u8,
+    firsts: &mut Vec<u16>,
+    index: &mut Index,
+) -> Result<(), Memory>
     requires low { level ≤ 3 }
     requires few { length pool.now < 65535 }
     requires sound { AllByRecursion (IsSound pool.now) pool.now }

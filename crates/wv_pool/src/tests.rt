@@ -129,10 +129,10 @@ fn faults(rt: HostRuntime) {
 
 /// The pool that the constants of `constants_in_order` fill.
 const ADDED: [u8; 99] = [
-    0, 20, 1, 0, 1, 0x6D, 7, 0, 1, 1, 0, 3, 0x28, 0x29, 0x56, 12, 0, 1, 0, 3, 10, 0, 2, 0, 4, 15, 6,
-    0, 5, 5, 0xFF, 0xFF, 0xFF, 0xFF, 0xFF, 0xFF, 0xFF, 0xFF, 6, 0, 0, 0, 0, 0, 0, 0, 1, 3, 0, 0, 0,
-    7, 4, 0x7F, 0xC0, 0, 0, 8, 0, 1, 16, 0, 3, 18, 0, 7, 0, 4, 1, 0, 1, 0x49, 12, 0, 1, 0, 16, 9, 0,
-    2, 0, 17, 11, 0, 2, 0, 4, 0, 0, 0, 0, 0, 0, 0, 0, 0, 0, 0, 0,
+    0, 20, 1, 0, 1, 0x6D, 7, 0, 1, 1, 0, 3, 0x28, 0x29, 0x56, 12, 0, 1, 0, 3, 10, 0, 2, 0, 4, 15,
+    6, 0, 5, 5, 0xFF, 0xFF, 0xFF, 0xFF, 0xFF, 0xFF, 0xFF, 0xFF, 6, 0, 0, 0, 0, 0, 0, 0, 1, 3, 0, 0,
+    0, 7, 4, 0x7F, 0xC0, 0, 0, 8, 0, 1, 16, 0, 3, 18, 0, 7, 0, 4, 1, 0, 1, 0x49, 12, 0, 1, 0, 16,
+    9, 0, 2, 0, 17, 11, 0, 2, 0, 4, 0, 0, 0, 0, 0, 0, 0, 0, 0, 0, 0, 0,
 ];
 
 fn member(alloc: Global, descriptor: &str) -> Result<MemberReference, Memory> {
@@ -148,9 +148,28 @@ fn constants_in_order(alloc: Global) -> Result<[(Const, u16); 15], Memory> {
     let m = Name::from_ascii(alloc, "m")?;
     let empty = Name::from_ascii(alloc, "()V")?;
     Ok([
-        (Const::MethodHandle { kind: 6, reference: member(alloc, "()V")?, interface: false }, 6),
-        (Const::Method { reference: member(alloc, "()V")?, interface: false }, 5),
-        (Const::NameAndType { name: m.copy()?, descriptor: empty.copy()? }, 4),
+        (
+            Const::MethodHandle {
+                kind: 6,
+                reference: member(alloc, "()V")?,
+                interface: false,
+            },
+            6,
+        ),
+        (
+            Const::Method {
+                reference: member(alloc, "()V")?,
+                interface: false,
+            },
+            5,
+        ),
+        (
+            Const::NameAndType {
+                name: m.copy()?,
+                descriptor: empty.copy()?,
+            },
+            4,
+        ),
         (Const::Utf8(empty.copy()?), 3),
         (Const::Class(m.copy()?), 2),
         (Const::Utf8(m.copy()?), 1),
@@ -160,9 +179,22 @@ fn constants_in_order(alloc: Global) -> Result<[(Const, u16); 15], Memory> {
         (Const::Float(0x7FC0_0000), 12),
         (Const::String(m.copy()?), 13),
         (Const::MethodType(empty.copy()?), 14),
-        (Const::InvokeDynamic { bootstrap: 7, name: m.copy()?, descriptor: empty.copy()? }, 15),
+        (
+            Const::InvokeDynamic {
+                bootstrap: 7,
+                name: m.copy()?,
+                descriptor: empty.copy()?,
+            },
+            15,
+        ),
         (Const::Field(member(alloc, "I")?), 18),
-        (Const::Method { reference: member(alloc, "()V")?, interface: true }, 19),
+        (
+            Const::Method {
+                reference: member(alloc, "()V")?,
+                interface: true,
+            },
+            19,
+        ),
     ])
 }
 

@@ -1,7 +1,7 @@
-use Rattle.std.proofs.Common.{◌≡◌, length, Option, Some, None, refl, sym, ap, subst, ◌∙◌, arith}
+use Rattle.std.proofs.Common.{sym, subst, ◌∙◌, arith}
 use Rattle.wv_pool.specs.Index.{number_in}
-use Rattle.wv_pool.specs.Building.{IsBuilt, first_of}
-use Rattle.wv_pool.proofs.Entering.{entry_next, built_other, built_more, key_here}
+use Rattle.wv_pool.specs.Building.{IsBuilt}
+use Rattle.wv_pool.proofs.Entering.{entry_next, built_other, built_more}
 use Rattle.wv_pool.proofs.building.enter_level.Goals as goal
 
 pub loop-entry-preserved-then-level_of-level : goal.loop-entry-preserved-then-level_of-level

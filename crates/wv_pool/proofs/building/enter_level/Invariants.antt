@@ -1,4 +1,4 @@
-use Rattle.std.proofs.Common.{◌≡◌, ◌≤◌, length}
+use Rattle.std.proofs.Common.{◌≡◌}
 use Rattle.wv_pool.specs.Index.{number_in}
 use Rattle.wv_pool.specs.Building.{IsBuilt}
 use Rattle.wv_pool.proofs.building.enter_level.Given as goal

@@ -1,4 +1,3 @@
-use Rattle.std.proofs.Common.{◌≤◌}
 use Rattle.wv_pool.specs.Index.{number_in}
 use Rattle.wv_pool.specs.Building.{IsBuilt}
 use Rattle.wv_pool.proofs.building.index_of.Given as goal

@@ -1,4 +1,4 @@
-use Rattle.std.proofs.Common.{◌≡◌, ◌++◌, ◌∷◌, [], false}
+use Rattle.std.proofs.Common.{false}
 use Rattle.std.proofs.lemmas.Result.{err_from_is_err_and}
 use Rattle.wv_pool.specs.Reading.{slots_in}
 use Rattle.wv_pool.proofs.Loop.{goes_on, ends, is_done}

@@ -1,5 +1,5 @@
 use Rattle.std.proofs.Common.{◌≡◌, ◌+◌, arith, length, take, ap}
-use Rattle.std.proofs.lemmas.List.{length-append, take_all}
+use Rattle.std.proofs.lemmas.List.{take_all}
 use Rattle.wv_base.specs.Modified.{unit_spelling, spelling}
 use Rattle.wv_pool.proofs.Entire.{flat_map-more, flat_map-front}
 use Rattle.wv_pool.proofs.length.text_len.Goals as goal

@@ -1,5 +1,5 @@
 use Rattle.std.proofs.Common.{◌≤◌, ◌<◌, length, false, take, drop, ◌+◌, arith}
-use Rattle.std.proofs.lemmas.List.{take_more, length-append}
+use Rattle.std.proofs.lemmas.List.{take_more}
 use Rattle.wv_pool.specs.Entries.{entry_bytes}
 use Rattle.wv_pool.proofs.Entire.{flat_map-more, split_at, slots_small, AllByRecursion-push}
 use Rattle.wv_pool.proofs.soundness.first_break.Goals as goal

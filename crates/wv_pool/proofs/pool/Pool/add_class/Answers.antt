@@ -1,4 +1,4 @@
-use Rattle.std.proofs.Common.{[], ◌∷◌, ◌++◌, refl, arith, sym, ap, ◌∙◌, Ok, Err, inl, inr}
+use Rattle.std.proofs.Common.{[], ◌∷◌}
 use Rattle.wv_base.specs.declared.constant.Const.TheVariants as constants
 use Rattle.wv_pool.proofs.Lacking.{adds_failed}
 use Rattle.wv_pool.proofs.Parts.{class_sound, class_named}

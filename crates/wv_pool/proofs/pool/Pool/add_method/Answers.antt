@@ -1,4 +1,4 @@
-use Rattle.std.proofs.Common.{[], ◌∷◌, ◌++◌, refl, arith, sym, ap, ◌∙◌, Ok, Err, inl, inr}
+use Rattle.std.proofs.Common.{[], ◌∷◌, Ok, Err}
 use Rattle.wv_base.specs.declared.constant.Const.TheVariants as constants
 use Rattle.wv_pool.specs.Adding.{class_needs, pair_needs, member_needs}
 use Rattle.wv_pool.proofs.Lacking.{adds_failed, adds_then, later}

@@ -1,6 +1,6 @@
-use Rattle.std.proofs.Common.{[], ◌∷◌, ◌++◌, refl, arith, sym, ap, ◌∙◌, Ok, Err, inl, inr}
+use Rattle.std.proofs.Common.{[], ◌∷◌, Ok, Err}
 use Rattle.wv_base.specs.declared.constant.Const.TheVariants as constants
-use Rattle.wv_pool.proofs.Lacking.{adds_failed, adds_then, adds_keeps, later}
+use Rattle.wv_pool.proofs.Lacking.{adds_failed, adds_then, later}
 use Rattle.wv_pool.proofs.Parts.{pair_sound, pair_named}
 use Rattle.wv_pool.proofs.pool.Pool.add_pair.Goals as goal
 

@@ -1,4 +1,4 @@
-use Rattle.std.proofs.Common.{[], ◌∷◌, ◌++◌, refl, arith, sym, ap, ◌∙◌, Ok, Err}
+use Rattle.std.proofs.Common.{[], ◌∷◌}
 use Rattle.wv_base.specs.declared.constant.Const.TheVariants as constants
 use Rattle.wv_base.specs.Descriptor.{IsMethodDescriptor}
 use Rattle.wv_pool.specs.Adding.{handled, pair_needs, member_needs}

@@ -1,5 +1,3 @@
-use Rattle.wv_pool.specs.Index.{number_in}
-use Rattle.wv_pool.specs.Numbers.{IsIn, Enters}
 use Rattle.wv_pool.proofs.pool.Pool.from_entries.Goals as goal
 
 pub invariant_of-result : goal.invariant_of-result

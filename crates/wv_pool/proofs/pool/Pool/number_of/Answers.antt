@@ -1,6 +1,3 @@
-use Rattle.std.proofs.Common.{◌≡◌, Option, Some, None, refl, sym, ◌∙◌, ℕ, List}
-use Rattle.std.specs.Prelude.{IfSome, IfNone}
-use Rattle.wv_pool.specs.Numbers.{IsLeast, Named}
 use Rattle.wv_pool.specs.Index.{number_in}
 use Rattle.wv_pool.proofs.Putting.{some_least, none_named}
 use Rattle.wv_pool.proofs.pool.Pool.number_of.Goals as goal

@@ -1,10 +1,8 @@
-use Rattle.std.proofs.Common.{◌≡◌, ◌++◌, ◌+◌, Option, Some, None, refl, sym, ap, subst, ◌∙◌, ◌⊎◌, inl, inr, ℕ, List, length, Ok, Err, arith}
-use Rattle.std.proofs.lemmas.List.{length-append}
-use Rattle.wv_base.specs.declared.class_file.PoolEntry.{PoolEntry}
+use Rattle.std.proofs.Common.{◌≡◌, ◌++◌, ◌+◌, Option, Some, None, refl, sym, ap, ◌∙◌, inl, inr, length, Ok, Err, arith}
 use Rattle.wv_pool.specs.declared.key.Key.{Key}
 use Rattle.wv_pool.specs.References.{IsSound}
 use Rattle.wv_pool.specs.Constants.{constant_in}
-use Rattle.wv_pool.specs.Numbers.{IsLeast, Named, number_for, find_key}
+use Rattle.wv_pool.specs.Numbers.{IsLeast, Named}
 use Rattle.wv_pool.specs.Index.{number_in}
 use Rattle.wv_pool.specs.Adding.{slots_of}
 use Rattle.wv_pool.specs.declared.add.PoolFault.TheVariants as faults
@@ -39,15 +37,15 @@ invariant_of-self-in_err-insert c = rw c.reserve.ensures.items (c.self.invariant
 pub invariant_of-self-2 : goal.invariant_of-self-2
 invariant_of-self-2 c =
     let put = was_put c.self.inside.entries.items c.push_slots.new.entries.items c.args.entry c.args.constant.now (number_in c.self.inside.index) (number_in c.insert.new.self) c.in-Some-2.key (c.len-count.result + 1) c.self.invariant c.requires.laid_out
-        (rw c.self.view_is c.requires.sound) (rw c.self.view_is c.requires.named) (sym c.number_of.ensures ∙ c.in_default.is) (sym c.in_ok-key.ensures ∙ c.in-Some-2.is) c.in_ok-insert.ensures.ok (omega arith)
-        (rw (← c.reserve.ensures.items) c.push_slots.ensures) (omega arith) in
+    (rw c.self.view_is c.requires.sound) (rw c.self.view_is c.requires.named) (sym c.number_of.ensures ∙ c.in_default.is) (sym c.in_ok-key.ensures ∙ c.in-Some-2.is) c.in_ok-insert.ensures.ok (omega arith)
+    (rw (← c.reserve.ensures.items) c.push_slots.ensures) (omega arith) in
     (put.is_pool, put.right)
 
 pub returns : goal.returns
 returns c =
     let put = was_put c.self.inside.entries.items c.push_slots.new.entries.items c.args.entry c.args.constant.now (number_in c.self.inside.index) (number_in c.insert.new.self) c.in-Some-2.key (c.len-count.result + 1) c.self.invariant c.requires.laid_out
-        (rw c.self.view_is c.requires.sound) (rw c.self.view_is c.requires.named) (sym c.number_of.ensures ∙ c.in_default.is) (sym c.in_ok-key.ensures ∙ c.in-Some-2.is) c.in_ok-insert.ensures.ok (omega arith)
-        (rw (← c.reserve.ensures.items) c.push_slots.ensures) (omega arith) in
+    (rw c.self.view_is c.requires.sound) (rw c.self.view_is c.requires.named) (sym c.number_of.ensures ∙ c.in_default.is) (sym c.in_ok-key.ensures ∙ c.in-Some-2.is) c.in_ok-insert.ensures.ok (omega arith)
+    (rw (← c.reserve.ensures.items) c.push_slots.ensures) (omega arith) in
     let unnamed : Named c.args.self.now c.args.constant.now → ⊥ = rw (← c.self.view_is) (found_none c.self.inside.entries.items (number_in c.self.inside.index) c.args.constant.now c.self.invariant.1 (sym c.number_of.ensures ∙ c.in_default.is)) in
     let longer : c.push_slots.new.entries.items ≡ c.args.self.now ++ slots_of c.args.entry = rw (← c.self.view_is, ← c.reserve.ensures.items) c.push_slots.ensures in
     put_adds c.args.self.now c.push_slots.new.entries.items c.args.entry c.args.constant.now (rw (← c.self.view_is) c.self.invariant.0.1) c.requires.named (Ok (c.len-count.result + 1)) (put.least, inr (unnamed, longer))
