@@ -1,0 +1,18 @@
+//! Times of parts of the loader, for the figures of docs/PERFORMANCE.md: run by hand.
+#![tactic(auto)]
+
+mod pool;
+
+use anyhow::Result;
+use std::env;
+
+/// How often the work is done, of which the fastest counts.
+const ROUNDS: usize = 5;
+
+fn main(rt: HostRuntime) -> Result<()> {
+    let words = env::args(&rt)?.collect::<Vec<String>>(rt.alloc())?;
+    match words.as_slice() {
+        [_, what] if what.as_str() == "pool" => pool::time(&rt, ROUNDS),
+        _ => Ok(println!(rt; "usage: wv_bench pool")?),
+    }
+}
