@@ -1,3 +1,9 @@
 pub mod TypingChecks
 pub mod ExtraPaths
 pub mod UnfitPaths
+pub mod NumberReads
+pub mod InsnReads
+pub mod CodeLoops
+pub mod PoolNames
+pub mod CodeReads
+pub mod CodeLists

@@ -17,7 +17,7 @@ use Rattle.wv_weave.specs.declared.typing.Kind.TheVariants as kinds
 use Rattle.wv_weave.specs.Checking as checking
 use Rattle.wv_weave.specs.declared.fault.PlainFault.{PlainFault}
 use Rattle.wv_weave.specs.declared.fault.PlainFault.TheVariants as faults
-use Rattle.wv_weave.specs.Checking.{Tells, IsNext, type_of, is_of, taken, added, next_plain, next_push, next_reference, next}
+use Rattle.wv_weave.specs.Checking.{Tells, Answers, IsNext, type_of, is_of, taken, added, next_plain, next_push, next_reference, next, goes_on, checks}
 
 -- ---- A row leads to the next state
 
@@ -163,15 +163,6 @@ next_leads (insns.MultiArray class dimensions) before after e = cc
 
 -- ---- A typing from a state
 
--- whether each instruction has a next state within the declared stack
-abbrev pub goes_on : ℕ → (Stack → Bool) → Option Stack → Bool
-goes_on max_stack more None = false
-goes_on max_stack more (Some after) = nat_le (length after) max_stack && more after
-
-abbrev pub checks : ℕ → Stack → List Insn → Bool
-checks max_stack stack [] = true
-checks max_stack stack (insn ∷ insns) = goes_on max_stack (λ after. checks max_stack after insns) (next insn stack)
-
 -- a typing from this state
 abbrev TypingFrom : ℕ → Stack → List Insn → Type 0
 TypingFrom max_stack stack insns =
@@ -244,21 +235,27 @@ no_typing : (max_stack : ℕ) (insns : List Insn) (b : Bool) → checks max_stac
 no_typing max_stack insns b is stops typing = let holds = checks_of_typing max_stack insns typing in cc
 
 pub stop_tells : (fault : PlainFault) (max_stack : ℕ) (stack after : Stack) (insns : List Insn) (i : ℕ) (insn : Insn) → i < length insns → insn ≡ get_or insns i insn
-    → checks max_stack [] insns ≡ checks max_stack stack (drop i insns) → IsNext {T = Unit {0}} (Err fault) (next insn stack) after → Tells {T = Unit {0}} (Err fault) (HasTyping max_stack insns)
+    → checks max_stack [] insns ≡ checks max_stack stack (drop i insns) → IsNext {T = Unit {0}} (Err fault) (next insn stack) after → Answers {T = Unit {0}} (Err fault) (checks max_stack [] insns)
 stop_tells faults.NotPlain max_stack stack after insns i insn within is kept found =
-    no_typing max_stack insns _ kept (checks_stop max_stack stack insns i insn within is found)
+    kept ∙ (checks_stop max_stack stack insns i insn within is found)
 stop_tells faults.Memory max_stack stack after insns i insn within is kept found = tt
 
 full_tells : (fault : PlainFault) (fits : Bool) (max_stack : ℕ) (stack after : Stack) (insns : List Insn) (i : ℕ) (insn : Insn) → i < length insns → insn ≡ get_or insns i insn
     → checks max_stack [] insns ≡ checks max_stack stack (drop i insns) → next insn stack ≡ Some after → nat_le (length after) max_stack ≡ fits
-    → MatchBool fits (◌≡◌ {A = Result (Unit {0}) PlainFault} (Err fault) (Ok tt)) (◌≡◌ {A = Result (Unit {0}) PlainFault} (Err fault) (Err faults.NotPlain)) → Tells {T = Unit {0}} (Err fault) (HasTyping max_stack insns)
+    → MatchBool fits (◌≡◌ {A = Result (Unit {0}) PlainFault} (Err fault) (Ok tt)) (◌≡◌ {A = Result (Unit {0}) PlainFault} (Err fault) (Err faults.NotPlain)) → Answers {T = Unit {0}} (Err fault) (checks max_stack [] insns)
 full_tells fault true max_stack stack after insns i insn within is kept found test told = cc
 full_tells faults.NotPlain false max_stack stack after insns i insn within is kept found test told =
-    no_typing max_stack insns _ kept (checks_full max_stack stack after insns i insn within is found (grind (arith, nat_tests)))
+    kept ∙ (checks_full max_stack stack after insns i insn within is found (grind (arith, nat_tests)))
 full_tells faults.Memory false max_stack stack after insns i insn within is kept found test told = tt
 
 pub room_tells : (fault : PlainFault) (words max_stack : ℕ) (stack after : Stack) (insns : List Insn) (i : ℕ) (insn : Insn) → i < length insns → insn ≡ get_or insns i insn
     → checks max_stack [] insns ≡ checks max_stack stack (drop i insns) → next insn stack ≡ Some after → words ≡ length after
-    → MatchBool (nat_le words max_stack) (◌≡◌ {A = Result (Unit {0}) PlainFault} (Err fault) (Ok tt)) (◌≡◌ {A = Result (Unit {0}) PlainFault} (Err fault) (Err faults.NotPlain)) → Tells {T = Unit {0}} (Err fault) (HasTyping max_stack insns)
+    → MatchBool (nat_le words max_stack) (◌≡◌ {A = Result (Unit {0}) PlainFault} (Err fault) (Ok tt)) (◌≡◌ {A = Result (Unit {0}) PlainFault} (Err fault) (Err faults.NotPlain)) → Answers {T = Unit {0}} (Err fault) (checks max_stack [] insns)
 room_tells fault words max_stack stack after insns i insn within is kept found same told =
     full_tells fault (nat_le words max_stack) max_stack stack after insns i insn within is kept found (ap (λ n. nat_le n max_stack) (sym same)) told
+
+-- what the check tells of a typing, from its answer
+pub answer_tells : (max_stack : ℕ) (insns : List Insn) (result : Result (Unit {0}) PlainFault) → Answers result (checks max_stack [] insns) → Tells result (HasTyping max_stack insns)
+answer_tells max_stack insns (Ok value) e = typing_of_checks max_stack insns e
+answer_tells max_stack insns (Err faults.NotPlain) e = no_typing max_stack insns _ refl e
+answer_tells max_stack insns (Err faults.Memory) e = tt

@@ -1,6 +1,6 @@
 -- Type checking of plain code as a function: the state behind an instruction, where its row fits (JVM Specification
 -- 4.10.1.9).
-use Rattle.std.specs.Prelude.{◌≡◌, ℕ, ◌==◌, nat_le, Bool, true, false, ◌&&◌, ◌||◌, if◌then◌else◌, [], ◌∷◌, codes, bytes_eq, Option, Some, None, option_and_then, Result, Ok, Err}
+use Rattle.std.specs.Prelude.{◌≡◌, ℕ, ◌==◌, nat_le, Bool, true, false, ◌&&◌, ◌||◌, if◌then◌else◌, List, [], ◌∷◌, length, codes, bytes_eq, Option, Some, None, option_and_then, Result, Ok, Err}
 use Rattle.wv_base.specs.declared.frame.VType.{VType}
 use Rattle.wv_base.specs.declared.frame.VType.TheVariants as types
 use Rattle.wv_base.specs.declared.insn.Insn.{Insn}
@@ -81,3 +81,18 @@ next (insns.Plain op) stack = next_plain op stack
 next (insns.Push op value) stack = next_push op stack
 next (insns.Reference op owner name descriptor interface) stack = next_reference op stack
 next insn stack = None
+
+-- whether each instruction has a next state within the declared stack
+abbrev pub goes_on : ℕ → (Stack → Bool) → Option Stack → Bool
+goes_on max_stack more None = false
+goes_on max_stack more (Some after) = nat_le (length after) max_stack && more after
+
+abbrev pub checks : ℕ → Stack → List Insn → Bool
+checks max_stack stack [] = true
+checks max_stack stack (insn ∷ insns) = goes_on max_stack (λ after. checks max_stack after insns) (next insn stack)
+
+-- the check's answer, unless memory ran out
+abbrev pub Answers : {T : Type 0} → Result T PlainFault → Bool → Type 0
+Answers (Ok value) holds = holds ≡ true
+Answers (Err faults.NotPlain) holds = holds ≡ false
+Answers (Err faults.Memory) holds = Unit {0}

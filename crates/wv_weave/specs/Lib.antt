@@ -3,3 +3,5 @@ pub mod Overwrite
 pub mod Checking
 pub mod Outside
 pub mod Woven
+pub mod Role
+pub mod Reading

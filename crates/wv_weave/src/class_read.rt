@@ -1,9 +1,11 @@
 //! What is read of the class files of the form.
 ghost use Rattle.std.specs.Prelude.{◌≡◌, IfOk, MatchBool};
 ghost use Rattle.wv_weave.specs.ClassRead.{IsReadOf};
+ghost use Rattle.wv_weave.specs.Role.{role_of};
 
 use crate::fault::PlainFault;
 use crate::plain_class::{magic_fault, read_plain};
+use crate::role::Role;
 use std::alloc::Global;
 use wv_base::{ClassFile, Folder, Memory};
 
@@ -25,14 +27,14 @@ impl ClassRead {
     }
 }
 
-/// What is read of the file at a path, which has to have the class of this name.
+/// What is read of the file at a path, which has to have the class of this role.
 pub(crate) fn read_at(
     alloc: Global,
     folder: &Folder,
     path: &str,
-    name: &str,
+    role: Role,
 ) -> Result<ClassRead, Memory>
-    ensures { IfOk result (IsReadOf folder.now path.now name.now) }
+    ensures { IfOk result (IsReadOf folder.now path.now (role_of role)) }
 {
     let Some(bytes) = folder.find(path) else {
         return Ok(ClassRead::OutOfForm);
@@ -40,9 +42,9 @@ pub(crate) fn read_at(
     if let Some(at) = magic_fault(bytes.as_slice()) {
         return Ok(ClassRead::NoMagic(at));
     }
-    match read_plain(alloc, bytes.as_slice()) {
-        Ok(class) if class.name.is_ascii(name) => Ok(ClassRead::Class(class)),
-        Ok(_) | Err(PlainFault::NotPlain) => Ok(ClassRead::OutOfForm),
+    match read_plain(alloc, role, bytes.as_slice()) {
+        Ok(class) => Ok(ClassRead::Class(class)),
+        Err(PlainFault::NotPlain) => Ok(ClassRead::OutOfForm),
         Err(PlainFault::Memory) => Err(Memory),
     }
 }

@@ -1,34 +1,38 @@
 //! Plain classes: the game class and the mixin of the form.
-ghost use Rattle.std.specs.Prelude.{◌≡◌, MatchOption};
-ghost use Rattle.wv_model.specs.PlainClass.{HasMagic, IsMagicFault};
+ghost use Rattle.std.specs.Prelude.{◌≡◌, MatchOption, MatchBool, IfOk, IfErr, IsTrue, AllPairs};
+ghost use Rattle.std.specs.Option.{option_map};
+ghost use Rattle.std.specs.Result.{result_map_both};
+ghost use Rattle.std.specs.List.{list_all};
+ghost use Rattle.wv_base.specs.declared.class_file.ClassFile.{ClassFile};
+ghost use Rattle.wv_model.specs.PlainClass.{HasMagic, IsMagicFault, IsPlainClass, IsPlainAs, IsPlain, AreSame};
+ghost use Rattle.wv_weave.specs.Checking.{Tells};
+ghost use Rattle.wv_weave.specs.ClassRead.{IsClassOf, IsPlainOrOther, Finds, IsReadFault};
+ghost use Rattle.wv_weave.specs.Role.{role_of};
+ghost use Rattle.wv_weave.specs.Reading.{Gives, FindsPool, is_count, end_of, count_at, methods_of, is_plain_entry, class_with, fits_role};
 
-use crate::annotation::{read_mixin, read_overwrite};
-use crate::code::read_insns;
+use crate::annotation::{class_notes, mixin};
+use crate::constant::{are_plain, class, copied, has_class};
 use crate::fault::PlainFault;
-use crate::form::{GAME_CLASS, MIXIN_CLASS};
-use crate::pool::{Pool, read_pool};
-use crate::reader::{Reader, plain};
-use crate::typing::check_typing;
+use crate::form::MIXIN_CLASS;
+use crate::method::{TABLE, attribute, methods};
+use crate::number::{expect, plain, short};
+use crate::role::Role;
 use bitflags::Flags;
 use std::alloc::Global;
 use std::collections::BTreeSet;
-use wv_base::{
-    AccessFlags, Body, ClassFault, ClassFile, ClassVersion, Items, Member, Memory, Name, Note,
-    is_method_name,
-};
+use wv_base::{AccessFlags, ClassFault, ClassFile, ClassVersion, Items, Member, Memory, Name};
+use wv_pool::{Pool, read_pool};
 
 /// How many bytes a plain class has at most.
 const MOST_BYTES: usize = 4096;
 
 const MAGIC: [u8; 4] = [0xca, 0xfe, 0xba, 0xbe];
 
-/// public and super (JVM Specification 4.1), and public and static (4.6).
+/// The magic number and the version 52.0 (JVM Specification 4.1).
+const HEAD: [u8; 8] = [0xca, 0xfe, 0xba, 0xbe, 0, 0, 0, 52];
+
+/// public and super (JVM Specification 4.1).
 const CLASS_FLAGS: u16 = 0x0021;
-
-const METHOD_FLAGS: u16 = 0x0009;
-
-/// The descriptor of a method that the platform starts.
-const MAIN_DESCRIPTOR: &str = "([Ljava/lang/String;)V";
 
 /// The first byte that differs from the magic number, or the length of bytes that end within it.
 pub(crate) fn magic_fault(bytes: &[u8]) -> Option<usize>
@@ -42,114 +46,10 @@ pub(crate) fn magic_fault(bytes: &[u8]) -> Option<usize>
     None
 }
 
-/// The attributes of a method: its code, and the table of invisible annotations of a mixin's.
-#[derive(Drop)]
-struct MethodAttributes<'a> {
-    code: Option<&'a [u8]>,
-    notes: Option<&'a [u8]>,
-}
-
-fn read_attributes<'a>(
-    pool: Pool<'_>,
-    reader: &mut Reader<'a>,
-) -> Result<MethodAttributes<'a>, PlainFault> {
-    let mut attributes = MethodAttributes {
-        code: None,
-        notes: None,
-    };
-    let count = reader.short()?;
-    for _ in 0..count {
-        let name = pool.text(reader.short()?)?;
-        let length = reader.length()?;
-        let content = reader.take(length)?;
-        if name.is_ascii("Code") && attributes.code.is_none() {
-            attributes.code = Some(content);
-        } else if name.is_ascii("RuntimeInvisibleAnnotations") && attributes.notes.is_none() {
-            attributes.notes = Some(content);
-        } else {
-            return Err(PlainFault::NotPlain);
-        }
-    }
-    Ok(attributes)
-}
-
-/// Code without ranges and attributes, with a typing. `locals` words are taken by the parameters.
-fn read_body(
-    alloc: Global,
-    pool: Pool<'_>,
-    in_mixin: bool,
-    locals: u16,
-    content: &[u8],
-) -> Result<Body, PlainFault> {
-    let mut reader = Reader::new(content);
-    let max_stack = reader.short()?;
-    let max_locals = reader.short()?;
-    let length = reader.length()?;
-    let insns = read_insns(alloc, pool, in_mixin, reader.take(length)?)?;
-    reader.expect(0)?;
-    reader.expect(0)?;
-    plain(reader.is_at_end() && locals <= max_locals)?;
-    check_typing(alloc, max_stack, insns.as_slice())?;
-    Ok(Body {
-        max_stack,
-        max_locals,
-        insns,
-        ranges: Items::new(alloc),
-        frames: Items::new(alloc),
-        kept: Items::new(alloc),
-    })
-}
-
-/// The notes of a method: none of a game method, and `@Overwrite` alone of a mixin's.
-fn read_notes(
-    alloc: Global,
-    pool: Pool<'_>,
-    in_mixin: bool,
-    table: Option<&[u8]>,
-) -> Result<Items<Note>, PlainFault> {
-    match table {
-        Some(table) if in_mixin => read_overwrite(alloc, pool, table),
-        None if !in_mixin => Ok(Items::new(alloc)),
-        _ => Err(PlainFault::NotPlain),
-    }
-}
-
-/// The words that the parameters of a plain method take.
-fn parameter_words(descriptor: &Name, in_mixin: bool) -> Result<u16, PlainFault> {
-    if descriptor.is_ascii("()V") {
-        return Ok(0);
-    }
-    plain(!in_mixin && descriptor.is_ascii(MAIN_DESCRIPTOR))?;
-    Ok(1)
-}
-
-fn read_method(
-    alloc: Global,
-    pool: Pool<'_>,
-    in_mixin: bool,
-    reader: &mut Reader<'_>,
-) -> Result<Member, PlainFault> {
-    reader.expect(METHOD_FLAGS)?;
-    let name = pool.text(reader.short()?)?;
-    plain(is_method_name(name) && !name.is_ascii("<init>") && !name.is_ascii("<clinit>"))?;
-    let descriptor = pool.text(reader.short()?)?;
-    let locals = parameter_words(descriptor, in_mixin)?;
-    let attributes = read_attributes(pool, reader)?;
-    let code = attributes.code.ok_or(PlainFault::NotPlain)?;
-    Ok(Member {
-        flags: AccessFlags::from_bits_retain(METHOD_FLAGS),
-        name: name.copy()?,
-        descriptor: descriptor.copy()?,
-        body: Some(read_body(alloc, pool, in_mixin, locals, code)?),
-        value: None,
-        throws: Items::new(alloc),
-        notes: read_notes(alloc, pool, in_mixin, attributes.notes)?,
-        kept: Items::new(alloc),
-    })
-}
-
 /// That no two methods have one name and descriptor.
-fn check_distinct(alloc: Global, methods: &[Member]) -> Result<(), PlainFault> {
+fn check_distinct(alloc: Global, methods: &[Member]) -> Result<(), PlainFault>
+    ensures { Tells result (AllPairs (λ first later. AreSame first later → ⊥) methods.now) }
+{
     let mut seen = BTreeSet::new(alloc);
     for method in methods {
         let key = (method.name.copy()?, method.descriptor.copy()?);
@@ -158,109 +58,160 @@ fn check_distinct(alloc: Global, methods: &[Member]) -> Result<(), PlainFault> {
     Ok(())
 }
 
-fn read_methods(
-    alloc: Global,
-    pool: Pool<'_>,
-    in_mixin: bool,
-    reader: &mut Reader<'_>,
-) -> Result<Items<Member>, PlainFault> {
-    let count = reader.short()?;
-    plain(!in_mixin || count == 1)?;
-    let mut methods = Items::new(alloc);
-    for _ in 0..count {
-        methods.push(read_method(alloc, pool, in_mixin, reader)?)?;
+fn is_count(role: Role, count: u16) -> bool
+    ensures { result ≡ is_count (role_of role) count }
+{
+    match role {
+        Role::Game => true,
+        Role::Mixin => count == 1,
     }
-    check_distinct(alloc, methods.as_slice())?;
+}
+
+/// That the attributes of the class are those that its role asks for, and nothing is behind them.
+#[tactic(auto, unfolding(crate::specs::Reading::end_of))]
+fn end(pool: &Pool, role: Role, bytes: &[u8]) -> Option<()>
+    ensures { result ≡ end_of (role_of role) pool.now bytes.now }
+{
+    match role {
+        Role::Game => {
+            if bytes == [0, 0].as_slice() { Some(()) } else { None }
+        }
+        Role::Mixin => {
+            let rest = expect(1, bytes)?;
+            let (table, rest) = attribute(pool, TABLE, rest)?;
+            if rest.is_empty() { mixin(pool, table) } else { None }
+        }
+    }
+}
+
+/// The count of methods behind the flags, the class, its superclass, no interfaces and no fields.
+#[tactic(auto, unfolding(crate::specs::Reading::count_at))]
+fn method_count<'a>(pool: &Pool, role: Role, bytes: &'a [u8]) -> Option<(u16, &'a [u8])>
+    ensures { option_map (λ x. (x.0, x.1.now)) result ≡ count_at (role_of role) pool.now bytes.now }
+{
+    let rest = expect(CLASS_FLAGS, bytes)?;
+    let rest = class(pool, role.class_name(), rest)?;
+    let rest = class(pool, "java/lang/Object", rest)?;
+    let rest = expect(0, rest)?;
+    let rest = expect(0, rest)?;
+    short(rest)
+}
+
+/// The methods of a class, whose bytes behind the pool these are.
+#[tactic(auto, unfolding(crate::specs::Reading::methods_of))]
+fn methods_of(
+    alloc: Global,
+    pool: &Pool,
+    role: Role,
+    bytes: &[u8],
+) -> Result<Items<Member>, PlainFault>
+    ensures { Gives (λ methods. methods) result (methods_of (role_of role) pool.now bytes.now) }
+{
+    let (count, rest) = method_count(pool, role, bytes).ok_or(PlainFault::NotPlain)?;
+    plain(is_count(role, count))?;
+    let (methods, rest) = methods(alloc, pool, role, count, rest)?;
+    end(pool, role, rest).ok_or(PlainFault::NotPlain)?;
     Ok(methods)
 }
 
-/// The notes of the class: none of the game class, and `@Mixin` alone of the mixin.
-fn read_class_notes(
+/// The class of the role with these methods and the entries of this pool.
+fn class_with(
     alloc: Global,
-    pool: Pool<'_>,
-    in_mixin: bool,
-    reader: &mut Reader<'_>,
-) -> Result<Items<Note>, PlainFault> {
-    if !in_mixin {
-        reader.expect(0)?;
-        return Ok(Items::new(alloc));
-    }
-    reader.expect(1)?;
-    plain(
-        pool.text(reader.short()?)?
-            .is_ascii("RuntimeInvisibleAnnotations"),
-    )?;
-    let length = reader.length()?;
-    read_mixin(alloc, pool, reader.take(length)?)
-}
-
-/// Whether the class of this name is the mixin of the form, where it is of the form.
-fn is_mixin(name: &Name, pool: Pool<'_>) -> Result<bool, PlainFault> {
-    if name.is_ascii(MIXIN_CLASS) {
-        return Ok(true);
-    }
-    plain(name.is_ascii(GAME_CLASS) && !pool.names_class(MIXIN_CLASS)?)?;
-    Ok(false)
-}
-
-/// Reads a plain class, all of the bytes.
-pub(crate) fn read_plain(alloc: Global, bytes: &[u8]) -> Result<ClassFile, PlainFault> {
-    plain(bytes.len() <= MOST_BYTES && magic_fault(bytes).is_none())?;
-    let mut reader = Reader::new(bytes);
-    reader.take(4)?;
-    reader.expect(0)?;
-    reader.expect(52)?;
-    let entries = read_pool(alloc, &mut reader)?;
-    let pool = Pool {
-        entries: entries.as_slice(),
-    };
-    pool.check()?;
-    reader.expect(CLASS_FLAGS)?;
-    let name = pool.class(reader.short()?)?.copy()?;
-    let in_mixin = is_mixin(&name, pool)?;
-    let superclass = pool.class(reader.short()?)?.copy()?;
-    plain(superclass.is_ascii("java/lang/Object"))?;
-    reader.expect(0)?;
-    reader.expect(0)?;
-    let methods = read_methods(alloc, pool, in_mixin, &mut reader)?;
-    let notes = read_class_notes(alloc, pool, in_mixin, &mut reader)?;
-    plain(reader.is_at_end())?;
+    role: Role,
+    pool: &Pool,
+    methods: Items<Member>,
+) -> Result<ClassFile, Memory>
+    requires { IsTrue (list_all is_plain_entry pool.now) }
+    ensures { IfOk result (λ class. class ≡ class_with (role_of role) pool.now methods) }
+{
     Ok(ClassFile {
         version: ClassVersion {
             major: 52,
             minor: 0,
         },
         flags: AccessFlags::from_bits_retain(CLASS_FLAGS),
-        name,
-        superclass,
+        name: Name::from_ascii(alloc, role.class_name())?,
+        superclass: Name::from_ascii(alloc, "java/lang/Object")?,
         interfaces: Items::new(alloc),
         fields: Items::new(alloc),
         methods,
-        notes,
-        pool: entries,
+        notes: class_notes(alloc, role)?,
+        pool: copied(alloc, pool.entries())?,
         kept: Items::new(alloc),
     })
 }
 
+/// The pool of a plain class, and the bytes behind it.
+fn pool(alloc: Global, bytes: &[u8]) -> Result<(Pool, &[u8]), PlainFault>
+    ensures { FindsPool bytes.now (result_map_both (λ x. (x.0, x.1.now)) (λ e. e) result) }
+{
+    let (pool, length) = match read_pool(alloc, bytes) {
+        Ok(read) => read,
+        Err(ClassFault::Memory) => return Err(PlainFault::Memory),
+        Err(_) => return Err(PlainFault::NotPlain),
+    };
+    plain(are_plain(pool.entries()))?;
+    Ok((pool, &bytes[length..]))
+}
+
+/// Whether a class of the role may have this pool: the game's class doesn't name the mixin.
+fn fits_role(pool: &Pool, role: Role) -> bool
+    ensures { result ≡ fits_role (role_of role) pool.now }
+{
+    role == Role::Mixin || !has_class(pool, MIXIN_CLASS)
+}
+
+/// Reads a plain class of the role, all of the bytes.
+pub(crate) fn read_plain(
+    alloc: Global,
+    role: Role,
+    bytes: &[u8],
+) -> Result<ClassFile, PlainFault>
+    ensures { Finds (role_of role) bytes.now result }
+{
+    plain(bytes.len() <= MOST_BYTES && bytes.starts_with(&HEAD))?;
+    let (pool, rest) = pool(alloc, &bytes[8..])?;
+    plain(fits_role(&pool, role))?;
+    let methods = methods_of(alloc, &pool, role, rest)?;
+    check_distinct(alloc, methods.as_slice())?;
+    Ok(class_with(alloc, role, &pool, methods)?)
+}
+
 /// Whether the bytes are a plain class, the game class or the mixin of the form.
-pub fn is_plain(alloc: Global, bytes: &[u8]) -> Result<bool, Memory> {
-    match read_plain(alloc, bytes) {
+pub fn is_plain(alloc: Global, bytes: &[u8]) -> Result<bool, Memory>
+    ensures { IfOk result (λ plain. MatchBool plain (IsPlain bytes.now) (IsPlain bytes.now → ⊥)) }
+{
+    match read_either(alloc, bytes) {
         Ok(_) => Ok(true),
         Err(PlainFault::NotPlain) => Ok(false),
         Err(PlainFault::Memory) => Err(Memory),
     }
 }
 
-/// Reads a plain class. Bytes that don't begin with the magic number have no layout from their first
-/// other byte on; `is_plain` tells which other bytes are no plain class, and they have none from
-/// their end on.
-pub fn read_class(alloc: Global, bytes: &[u8]) -> Result<ClassFile, ClassFault> {
+/// Reads a plain class of either role.
+fn read_either(alloc: Global, bytes: &[u8]) -> Result<ClassFile, PlainFault>
+    ensures found { IfOk result (IsClassOf bytes.now) }
+    ensures none { result ≡ Err PlainFault.NotPlain → IsPlain bytes.now → ⊥ }
+{
+    match read_plain(alloc, Role::Game, bytes) {
+        Err(PlainFault::NotPlain) => read_plain(alloc, Role::Mixin, bytes),
+        read => read,
+    }
+}
+
+/// Reads a plain class, or tells the first byte that isn't the magic number's. `is_plain` tests what it asks for of bytes
+/// that begin with that number.
+pub fn read_class(alloc: Global, bytes: &[u8]) -> Result<ClassFile, ClassFault>
+    requires { IsPlainOrOther bytes.now }
+    ensures found { IfOk result (IsClassOf bytes.now) }
+    ensures fault { IfErr result (IsReadFault bytes.now) }
+{
     if let Some(at) = magic_fault(bytes) {
         return Err(ClassFault::Layout { at });
     }
-    match read_plain(alloc, bytes) {
+    match read_either(alloc, bytes) {
         Ok(class) => Ok(class),
-        Err(PlainFault::NotPlain) => Err(ClassFault::Layout { at: bytes.len() }),
+        Err(PlainFault::NotPlain) => unreachable!(),
         Err(PlainFault::Memory) => Err(ClassFault::Memory),
     }
 }

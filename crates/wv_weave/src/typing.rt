@@ -1,13 +1,12 @@
 //! Type checking of plain code (JVM Specification 4.10.1).
 ghost use Rattle.std.specs.Prelude.{◌≡◌, [], ◌∷◌, length, MatchBool, OnOk, Some, None};
-ghost use Rattle.wv_model.specs.PlainTyping.{HasTyping};
-ghost use Rattle.wv_weave.specs.Checking.{Tells, type_of, taken, added, dropped, printed, next_plain, next_push, next_reference, next, IsNext};
+ghost use Rattle.wv_weave.specs.Checking.{Answers, checks, type_of, taken, added, dropped, printed, next_plain, next_push, next_reference, next, IsNext};
 
 use crate::fault::PlainFault;
 use crate::opcode::{
     BIPUSH, GETSTATIC, IADD, ICONST_0, ICONST_5, IMUL, INVOKESTATIC, INVOKEVIRTUAL, POP, RETURN,
 };
-use crate::reader::plain;
+use crate::number::plain;
 use std::alloc::Global;
 use std::marker::Model;
 use wv_base::{Insn, Memory};
@@ -135,7 +134,7 @@ impl Stack {
 
 /// That plain code has a typing within the declared stack.
 pub(crate) fn check_typing(alloc: Global, max_stack: u16, insns: &[Insn]) -> Result<(), PlainFault>
-    ensures { Tells result (HasTyping max_stack insns.now) }
+    ensures { Answers result (checks max_stack [] insns.now) }
 {
     let mut stack = Stack::new(alloc);
     for insn in insns {

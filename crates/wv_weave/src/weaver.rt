@@ -7,9 +7,10 @@ ghost use Rattle.wv_weave.specs.Woven.{IsOneEdit};
 
 use crate::class_read::{ClassRead, read_at};
 use crate::fault::WeaveFault;
-use crate::form::{GAME_CLASS, GAME_CLASS_PATH, MIXIN_CLASS, MIXIN_CLASS_PATH, WRITTEN_PATH};
+use crate::form::{GAME_CLASS_PATH, MIXIN_CLASS_PATH, WRITTEN_PATH};
 use crate::outside::first_outside;
 use crate::overwrite::{overwrite, target_of};
+use crate::role::Role;
 use crate::write::write_class;
 use std::alloc::Global;
 use wv_base::{
@@ -160,8 +161,8 @@ pub fn weave(alloc: Global, folder: &Folder, _side: Side) -> Result<Woven, Weave
     ensures form { (path : List ℕ) → IsMisplaced folder.now path → RefusesForm result path }
     ensures one_edit { IfOk result IsOneEdit }
 {
-    let game = read_at(alloc, folder, GAME_CLASS_PATH, GAME_CLASS)?;
-    let mixin = read_at(alloc, folder, MIXIN_CLASS_PATH, MIXIN_CLASS)?;
+    let game = read_at(alloc, folder, GAME_CLASS_PATH, Role::Game)?;
+    let mixin = read_at(alloc, folder, MIXIN_CLASS_PATH, Role::Mixin)?;
     match first_outside(folder, &game, &mixin) {
         Some(path) => Err(refused_form(alloc, path)?),
         None => apply(alloc, game, mixin),

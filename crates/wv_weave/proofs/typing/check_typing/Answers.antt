@@ -1,5 +1,5 @@
 use Rattle.std.proofs.Common.{◌≡◌, ◌∙◌, Err, arith, rules}
-use Rattle.wv_weave.proofs.TypingChecks.{typing_of_checks, checks_end, stop_tells, room_tells}
+use Rattle.wv_weave.proofs.TypingChecks.{checks_end, stop_tells, room_tells}
 use Rattle.wv_weave.proofs.typing.check_typing.Goals as goal
 
 pub returns-in_err-apply : goal.returns-in_err-apply
@@ -14,4 +14,4 @@ returns-in_err-plain c =
 
 pub returns : goal.returns
 returns c =
-    typing_of_checks c.args.max_stack c.args.insns.now (c.loop-insn.invariant ∙ checks_end c.args.max_stack c.loop-insn.stack c.args.insns.now c.loop-insn.insn-index c.loop-insn-test.false)
+    c.loop-insn.invariant ∙ checks_end c.args.max_stack c.loop-insn.stack c.args.insns.now c.loop-insn.insn-index c.loop-insn-test.false

@@ -1,5 +1,5 @@
 use Rattle.std.proofs.Common.{◌≡◌, [], drop}
-use Rattle.wv_weave.proofs.TypingChecks.{checks}
+use Rattle.wv_weave.specs.Checking.{checks}
 use Rattle.wv_weave.proofs.typing.check_typing.Given as goal
 
 abbrev pub invariant-loop-insn : goal.invariant-loop-insn

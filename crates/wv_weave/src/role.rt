@@ -1,0 +1,26 @@
+//! The two classes of the form.
+
+use crate::form::{GAME_CLASS, MIXIN_CLASS};
+
+ghost use Rattle.std.specs.Prelude.{◌≡◌};
+ghost use Rattle.wv_model.specs.PlainCode.{class_name};
+ghost use Rattle.wv_weave.specs.Role.{role_of};
+
+/// What a class is to the form.
+#[derive(Clone, Copy, Debug, PartialEq, Eq)]
+pub(crate) enum Role {
+    Game,
+    Mixin,
+}
+
+impl Role {
+    /// The name of the class.
+    pub(crate) fn class_name(self) -> &'static str
+        ensures { result.now ≡ class_name (role_of self) }
+    {
+        match self {
+            Role::Game => GAME_CLASS,
+            Role::Mixin => MIXIN_CLASS,
+        }
+    }
+}
