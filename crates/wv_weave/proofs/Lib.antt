@@ -7,3 +7,4 @@ pub mod CodeLoops
 pub mod PoolNames
 pub mod CodeReads
 pub mod CodeLists
+pub mod AttributeReads

@@ -211,12 +211,17 @@ one_class_at bytes = do
   front ← split_at 4 bytes
   if bytes_eq front.0 (0x5B ∷ 0 ∷ 1 ∷ 0x63 ∷ []) then Some front.1 else None
 
+-- the elements of the one annotation `@Mixin`, behind their count, which is one
+unfoldable pub mixin_at : List PoolEntry → List ℕ → Option (List ℕ)
+mixin_at pool content = do
+  kind ← expected 1 content
+  count ← named_at pool (codes "Lorg/spongepowered/asm/mixin/Mixin;") kind
+  expected 1 count
+
 -- the one annotation `@Mixin` on the class `app/Main`
 unfoldable pub mixin_in : List PoolEntry → List ℕ → Option (Unit {0})
 mixin_in pool content = do
-  kind ← expected 1 content
-  count ← named_at pool (codes "Lorg/spongepowered/asm/mixin/Mixin;") kind
-  name ← expected 1 count
+  name ← mixin_at pool content
   value ← named_at pool (codes "value") name
   class ← one_class_at value
   end ← named_at pool (codes "Lapp/Main;") class
@@ -377,12 +382,17 @@ end_of Mixin pool bytes = do
   _ ← when (bytes_eq table.1 [])
   mixin_in pool table.0
 
--- the count of methods, behind the flags, the class, its superclass, and no interfaces and fields
-unfoldable pub count_at : Role → List PoolEntry → List ℕ → Option (ℕ × List ℕ)
-count_at role pool bytes = do
+-- the bytes behind the flags, the class and its superclass
+unfoldable pub supers_at : Role → List PoolEntry → List ℕ → Option (List ℕ)
+supers_at role pool bytes = do
   this ← expected 0x0021 bytes
   super ← class_at pool (class_name role) this
-  interfaces ← class_at pool (codes "java/lang/Object") super
+  class_at pool (codes "java/lang/Object") super
+
+-- the count of methods, behind no interfaces and no fields
+unfoldable pub count_at : Role → List PoolEntry → List ℕ → Option (ℕ × List ℕ)
+count_at role pool bytes = do
+  interfaces ← supers_at role pool bytes
   fields ← expected 0 interfaces
   methods ← expected 0 fields
   short_at methods

@@ -2,7 +2,7 @@
 ghost use Rattle.std.specs.Prelude.{◌≡◌, IfOk, [], ◌∷◌};
 ghost use Rattle.std.specs.Option.{option_copied};
 ghost use Rattle.wv_weave.specs.Role.{role_of};
-ghost use Rattle.wv_weave.specs.Reading.{when, overwrite_in, one_class_at, mixin_in, note, method_notes, class_notes};
+ghost use Rattle.wv_weave.specs.Reading.{when, overwrite_in, one_class_at, mixin_at, mixin_in, note, method_notes, class_notes};
 
 use crate::constant::named;
 use crate::number::{expect, split};
@@ -47,14 +47,22 @@ fn one_class(bytes: &[u8]) -> Option<&[u8]>
     }
 }
 
+/// The elements of the one annotation `@Mixin` of a table, behind their count, which is one.
+#[tactic(auto, unfolding(crate::specs::Reading::mixin_at))]
+fn mixin_elements<'a>(pool: &Pool, table: &'a [u8]) -> Option<&'a [u8]>
+    ensures { option_copied result ≡ mixin_at pool.now table.now }
+{
+    let kind = expect(1, table)?;
+    let count = named(pool, "Lorg/spongepowered/asm/mixin/Mixin;", kind)?;
+    expect(1, count)
+}
+
 /// That a table has the one annotation `@Mixin` with the one target that the form has.
 #[tactic(auto, unfolding(crate::specs::Reading::mixin_in))]
 pub(crate) fn mixin(pool: &Pool, table: &[u8]) -> Option<()>
     ensures { result ≡ mixin_in pool.now table.now }
 {
-    let kind = expect(1, table)?;
-    let count = named(pool, "Lorg/spongepowered/asm/mixin/Mixin;", kind)?;
-    let name = expect(1, count)?;
+    let name = mixin_elements(pool, table)?;
     let value = named(pool, "value", name)?;
     let class = one_class(value)?;
     let end = named(pool, TARGET, class)?;

@@ -1,6 +1,6 @@
 //! Plain classes: the game class and the mixin of the form.
 ghost use Rattle.std.specs.Prelude.{◌≡◌, MatchOption, MatchBool, IfOk, IfErr, IsTrue, AllPairs};
-ghost use Rattle.std.specs.Option.{option_map};
+ghost use Rattle.std.specs.Option.{option_map, option_copied};
 ghost use Rattle.std.specs.Result.{result_map_both};
 ghost use Rattle.std.specs.List.{list_all};
 ghost use Rattle.wv_base.specs.declared.class_file.ClassFile.{ClassFile};
@@ -8,7 +8,7 @@ ghost use Rattle.wv_model.specs.PlainClass.{HasMagic, IsMagicFault, IsPlainClass
 ghost use Rattle.wv_weave.specs.Checking.{Tells};
 ghost use Rattle.wv_weave.specs.ClassRead.{IsClassOf, IsPlainOrOther, Finds, IsReadFault};
 ghost use Rattle.wv_weave.specs.Role.{role_of};
-ghost use Rattle.wv_weave.specs.Reading.{Gives, FindsPool, is_count, end_of, count_at, methods_of, is_plain_entry, class_with, fits_role};
+ghost use Rattle.wv_weave.specs.Reading.{Gives, FindsPool, is_count, end_of, supers_at, count_at, methods_of, is_plain_entry, class_with, fits_role};
 
 use crate::annotation::{class_notes, mixin};
 use crate::constant::{are_plain, class, copied, has_class};
@@ -84,14 +84,22 @@ fn end(pool: &Pool, role: Role, bytes: &[u8]) -> Option<()>
     }
 }
 
+/// The bytes behind the flags, the class and its superclass.
+#[tactic(auto, unfolding(crate::specs::Reading::supers_at))]
+fn supers<'a>(pool: &Pool, role: Role, bytes: &'a [u8]) -> Option<&'a [u8]>
+    ensures { option_copied result ≡ supers_at (role_of role) pool.now bytes.now }
+{
+    let rest = expect(CLASS_FLAGS, bytes)?;
+    let rest = class(pool, role.class_name(), rest)?;
+    class(pool, "java/lang/Object", rest)
+}
+
 /// The count of methods behind the flags, the class, its superclass, no interfaces and no fields.
 #[tactic(auto, unfolding(crate::specs::Reading::count_at))]
 fn method_count<'a>(pool: &Pool, role: Role, bytes: &'a [u8]) -> Option<(u16, &'a [u8])>
     ensures { option_map (λ x. (x.0, x.1.now)) result ≡ count_at (role_of role) pool.now bytes.now }
 {
-    let rest = expect(CLASS_FLAGS, bytes)?;
-    let rest = class(pool, role.class_name(), rest)?;
-    let rest = class(pool, "java/lang/Object", rest)?;
+    let rest = supers(pool, role, bytes)?;
     let rest = expect(0, rest)?;
     let rest = expect(0, rest)?;
     short(rest)
