@@ -8,3 +8,4 @@ pub mod PoolNames
 pub mod CodeReads
 pub mod CodeLists
 pub mod AttributeReads
+pub mod MethodReads
