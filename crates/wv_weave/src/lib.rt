@@ -2,17 +2,18 @@
 #![tactic(auto)]
 
 mod annotation;
+mod class_pool;
 mod class_read;
 mod code;
 mod fault;
 mod form;
+mod named;
 mod opcode;
 mod outside;
 mod overwrite;
 mod path;
 mod plain_class;
 mod pool;
-mod pool_builder;
 mod reader;
 mod typing;
 mod weaver;
