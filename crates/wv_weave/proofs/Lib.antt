@@ -6,3 +6,5 @@ pub mod PlainPools
 pub mod PoolGrowth
 pub mod Spelling
 pub mod WrittenClass
+pub mod WovenForm
+pub mod WovenLimits

@@ -3,6 +3,7 @@ use Rattle.std.proofs.Common.{◌≡◌, ℕ, ◌+◌, ◌^◌, ◌<◌, List, [
 use Rattle.std.specs.Prelude.{Contains, IsSomeAnd}
 use Rattle.std.specs.List.{concat, AllZip}
 use Rattle.std.proofs.lemmas.List.{append_assoc, length-append}
+use Rattle.std.proofs.lemmas.List.Sums.{sum_by-cons}
 use Rattle.wv_base.specs.declared.class_file.Body.{Body}
 use Rattle.wv_base.specs.declared.class_file.ClassFile.{ClassFile}
 use Rattle.wv_base.specs.declared.class_file.Member.{Member}
@@ -135,7 +136,9 @@ rest_spelled pool class old a b d e f g h new flags_fit flags name super interfa
 
 with_more : (class : ClassFile) (more : List PoolEntry) (out new : List ℕ) → IsWritable class → IsPlainPool (class.pool ++ more) → class.version.minor < 2 ^ 16 → class.version.major < 2 ^ 16
     → out ≡ ((magic ++ u2 class.version.minor) ++ u2 class.version.major) ++ entire.pool_bytes (class.pool ++ more) → Appends (IsRest (class.pool ++ more) class) out new → IsClassBytes class new
-with_more class more out new form is minor_fits major_fits head rest = record {
+with_more class more out new form is minor_fits major_fits head rest =
+    let tail : List ℕ = u2 class.flags.0 ++ (u2 rest.spelled.this_number ++ (u2 rest.spelled.super_number ++ (u2 0 ++ (u2 0 ++ (u2 (length class.methods) ++ (concat rest.spelled.parts ++ u2 0)))))) in
+    record {
   more = more;
   spelled = record {
     pool = is;
@@ -143,22 +146,22 @@ with_more class more out new form is minor_fits major_fits head rest = record {
     this = rest.spelled.this;
     super_number = rest.spelled.super_number;
     super_class = rest.spelled.super_class;
-    no_interfaces = form.no_interfaces;
-    no_fields = form.no_fields;
+    no_interfaces = form.form.no_interfaces;
+    no_fields = form.form.no_fields;
     parts = rest.spelled.parts;
     methods = rest.spelled.methods;
-    methods_fit = form.methods_fit;
+    methods_fit = form.form.methods_fit;
     attributes = u2 0;
     attributes_spelled = refl;
-    notes = form.no_notes;
-    none_kept = form.none_kept;
+    notes = form.form.no_notes;
+    none_kept = form.form.none_kept;
     flags_fit = rest.spelled.flags_fit;
     minor_fits = minor_fits;
     major_fits = major_fits;
     spelled = rest.longer
     ∙ ap (λ (s : List ℕ). out ++ s) rest.spelled.spelled
-    ∙ ap (λ (s : List ℕ). s ++ _) (head ∙ ap (λ (s : List ℕ). ((magic ++ u2 class.version.minor) ++ u2 class.version.major) ++ s) (same_bytes (class.pool ++ more) is))
-    ∙ group_head magic (u2 class.version.minor) (u2 class.version.major) (plain.pool_bytes (class.pool ++ more)) _;
+    ∙ ap (λ (s : List ℕ). s ++ tail) (head ∙ ap (λ (s : List ℕ). ((magic ++ u2 class.version.minor) ++ u2 class.version.major) ++ s) (same_bytes (class.pool ++ more) is))
+    ∙ group_head magic (u2 class.version.minor) (u2 class.version.major) (plain.pool_bytes (class.pool ++ more)) tail;
   };
 }
 
@@ -191,7 +194,9 @@ code_length : (pool : List PoolEntry) (code : List Insn) (parts : List (List ℕ
 code_length pool [] [] h = refl
 code_length pool [] (part ∷ parts) h = absurd h
 code_length pool (insn ∷ code) [] h = absurd h
-code_length pool (insn ∷ code) (part ∷ parts) h = omega (arith, length-append part (concat parts), insn_length pool insn part h.0, code_length pool code parts h.1)
+code_length pool (insn ∷ code) (part ∷ parts) h =
+    let joined : concat (part ∷ parts) ≡ part ++ concat parts = refl in
+    omega (arith, ap length joined, length-append part (concat parts), sum_by-cons insn_size insn code, insn_length pool insn part h.0, code_length pool code parts h.1)
 
 pub size_spelled : (pool : List PoolEntry) (code : List Insn) (bytes : List ℕ) → SpellsAll (SpellsInsn pool) code bytes → length bytes ≡ code_size code
 size_spelled pool code bytes h = ap length h.joined ∙ code_length pool code h.parts h.each

@@ -13,11 +13,12 @@ use Rattle.wv_base.specs.declared.fault.LimitFault.TheVariants as faults
 use Rattle.wv_base.specs.declared.insn.Insn.{Insn}
 use Rattle.wv_base.specs.declared.insn.Insn.TheVariants as insns
 use Rattle.wv_model.specs.PlainPool.{u2, IsClass, IsPlainPool}
-use Rattle.wv_model.specs.PlainCode.{Game}
-use Rattle.wv_model.specs.PlainClass.{Spells, SpellsMethod}
+use Rattle.wv_model.specs.PlainCode.{Game, Mixin}
+use Rattle.wv_model.specs.PlainClass.{IsPlainClass, Spells, SpellsMethod}
 use Rattle.wv_pool.specs.Adding.{AreTooMany, Keeps}
 use Rattle.wv_pool.specs.Constants.{constant_of}
 use Rattle.wv_pool.specs.Numbers.{Named}
+use Rattle.wv_weave.specs.Overwrite.{IsOverwrite}
 use Rattle.wv_weave.specs.ClassConstants.{class_constants, parts_of, IsPlainConst}
 
 -- ---- What is written
@@ -44,16 +45,20 @@ pub record IsWritableMethod (method : Member) : Type 0 where
   pub no_notes : method.notes ≡ []
   pub none_kept : method.kept ≡ []
 
--- a class that can be written: it has a plain pool, names plain constants, and has nothing but such methods (4.1)
-pub record IsWritable (class : ClassFile) : Type 0 where
-  pub pool : IsPlainPool class.pool
-  pub constants : AllByRecursion IsPlainConst (class_constants class)
+-- a class that has nothing but such methods (4.1)
+pub record HasWritableForm (class : ClassFile) : Type 0 where
   pub methods : AllByRecursion IsWritableMethod class.methods
   pub methods_fit : length class.methods < 2 ^ 16
   pub no_interfaces : class.interfaces ≡ []
   pub no_fields : class.fields ≡ []
   pub no_notes : class.notes ≡ []
   pub none_kept : class.kept ≡ []
+
+-- a class that can be written: besides it has a plain pool, and names plain constants
+pub record IsWritable (class : ClassFile) : Type 0 where
+  pub form : HasWritableForm class
+  pub pool : IsPlainPool class.pool
+  pub constants : AllByRecursion IsPlainConst (class_constants class)
 
 -- ---- The bytes
 
@@ -133,3 +138,16 @@ Exceeds class faults.PoolLarge = AreTooMany class.pool (parts_of (class_constant
 Exceeds class faults.CodeLarge = ExceedsMethods class.methods faults.CodeLarge
 Exceeds class faults.BranchFar = ⊥
 Exceeds class faults.Memory = Unit {0}
+
+-- ---- What is woven
+
+-- a plain class of the game in which a method of a plain mixin overwrites one
+pub record IsOverwritten (game mixin woven : ClassFile) : Type 0 where
+  pub bytes : List ℕ
+  pub is_game : IsPlainClass Game bytes game
+  pub other : List ℕ
+  pub is_mixin : IsPlainClass Mixin other mixin
+  pub origin : Member
+  pub of_mixin : Contains mixin.methods origin
+  pub place : ℕ
+  pub made : IsOverwrite game place origin woven

@@ -17,10 +17,12 @@ mod pool;
 mod reader;
 mod typing;
 mod weaver;
+mod writable;
 mod write;
 
 pub use fault::WeaveFault;
 pub use path::is_read;
 pub use plain_class::{is_plain, read_class};
 pub use weaver::{Woven, weave};
+pub use writable::{is_writable, plain_fits};
 pub use write::write_class;

@@ -1,14 +1,18 @@
 //! Which classes can be written.
-ghost use Rattle.std.specs.Prelude.{◌≡◌, ◌↔◌, IsTrue, IfOk};
+ghost use Rattle.std.specs.Prelude.{◌≡◌, ◌↔◌, List, ℕ, IsTrue, IfOk};
 ghost use Rattle.std.specs.List.{AllByRecursion};
+ghost use Rattle.wv_base.specs.declared.class_file.ClassFile.{ClassFile as Class};
+ghost use Rattle.wv_base.specs.declared.fault.LimitFault.{LimitFault as Fault};
+ghost use Rattle.wv_model.specs.PlainCode.{Game};
+ghost use Rattle.wv_model.specs.PlainClass.{IsPlainClass};
 ghost use Rattle.wv_model.specs.PlainPool.{IsPlainUnit, IsPlainText, IsPlainPool};
 ghost use Rattle.wv_weave.specs.ClassConstants.{HasPlainTexts, IsPlainConst};
 ghost use Rattle.wv_weave.specs.PlainKinds.{IsPlainKind};
-ghost use Rattle.wv_weave.specs.Writing.{IsWritableInsn, IsWritableBody, IsWritableMethod, HasWritableForm, IsWritable};
+ghost use Rattle.wv_weave.specs.Writing.{IsWritableInsn, IsWritableBody, IsWritableMethod, HasWritableForm, IsWritable, Exceeds, IsOverwritten};
 
 use crate::named::class_constants;
 use std::alloc::Global;
-use wv_base::{Body, ClassFile, Const, Insn, Member, MemberReference, Memory, Name, PoolEntry};
+use wv_base::{Body, ClassFile, Const, Insn, LimitFault, Member, MemberReference, Memory, Name, PoolEntry};
 use wv_pool::{first_break, is_allowed};
 
 fn are_plain_units(units: &[u16]) -> bool
@@ -176,3 +180,11 @@ pub fn is_writable(alloc: Global, class: &ClassFile) -> Result<bool, Memory>
     let constants = class_constants(alloc, class)?;
     Ok(are_plain(&constants))
 }
+
+/// A plain class of the game can be written, also after a plain mixin's overwrite, which then passes
+/// no limit.
+pub fn plain_fits()
+    ensures read { (class : Class) (bytes : List ℕ) → IsPlainClass Game bytes class → IsWritable class }
+    ensures writable { (game mixin woven : Class) → IsOverwritten game mixin woven → IsWritable woven }
+    ensures within { (game mixin woven : Class) (fault : Fault) → IsOverwritten game mixin woven → Exceeds woven fault → fault ≡ LimitFault.Memory }
+{}
