@@ -8,3 +8,4 @@ pub mod Spelling
 pub mod WrittenClass
 pub mod WovenForm
 pub mod WovenLimits
+pub mod KindPools

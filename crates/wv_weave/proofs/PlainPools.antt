@@ -43,7 +43,7 @@ plain_spelling (unit ∷ text) h = flat_map-cons unit_spelling unit text ∙ ap 
 pub short : (text : List ℕ) → IsPlainText text → IsShort text
 short text h = omega (arith, h.1, ap length (plain_spelling text h.0))
 
-plain_name : (text : List ℕ) → AllByRecursion IsPlainUnit text → IsName text
+pub plain_name : (text : List ℕ) → AllByRecursion IsPlainUnit text → IsName text
 plain_name [] h = tt
 plain_name (unit ∷ text) h = (omega (arith, h.0.1), plain_name text h.1)
 
@@ -60,7 +60,7 @@ text_is : (x y : List ℕ) → ◌≡◌ {A = Option PoolEntry} (Some (entries.U
 text_is x y e = cc
 
 -- a name that is a field's and no angle's is a method's
-method_name : (name : List ℕ) → IsTrue (is_unqualified name) → (HasAngle name → ⊥) → IsTrue (is_method_name name)
+pub method_name : (name : List ℕ) → IsTrue (is_unqualified name) → (HasAngle name → ⊥) → IsTrue (is_method_name name)
 method_name name is none = go (is_method_name name) (λ h. none (is, h))
   where
     go : (b : Bool) → ((IsTrue b → ⊥) → ⊥) → IsTrue b
@@ -195,29 +195,29 @@ module _ (pool : List PoolEntry) where
   pub plain_pool : IsPlainPool pool → IsPool pool
   plain_pool is = ((is.0, all_slots is pool is.1), all_sound is pool is.1)
 
-  kind_of : (e : PoolEntry) → IsPlainEntry pool e → IsPlainKind e
-  kind_of (entries.Utf8 x) h = h
-  kind_of (entries.Integer v) h = absurd h
-  kind_of (entries.Float b) h = absurd h
-  kind_of (entries.Long v) h = absurd h
-  kind_of (entries.Double b) h = absurd h
-  kind_of (entries.Class n) h = tt
-  kind_of (entries.String n) h = absurd h
-  kind_of (entries.Field m n) h = tt
-  kind_of (entries.Method m n) h = tt
-  kind_of (entries.InterfaceMethod m n) h = absurd h
-  kind_of (entries.NameAndType m n) h = tt
-  kind_of (entries.MethodHandle m n) h = absurd h
-  kind_of (entries.MethodType n) h = absurd h
-  kind_of (entries.InvokeDynamic m n) h = absurd h
-  kind_of entries.Unusable h = absurd h
+  kind_of : IsPlainPool pool → (e : PoolEntry) → IsPlainEntry pool e → IsPlainKind e
+  kind_of is (entries.Utf8 x) h = h
+  kind_of is (entries.Integer v) h = absurd h
+  kind_of is (entries.Float b) h = absurd h
+  kind_of is (entries.Long v) h = absurd h
+  kind_of is (entries.Double b) h = absurd h
+  kind_of is (entries.Class n) h = plain_entry is (entries.Class n) h
+  kind_of is (entries.String n) h = absurd h
+  kind_of is (entries.Field m n) h = plain_entry is (entries.Field m n) h
+  kind_of is (entries.Method m n) h = plain_entry is (entries.Method m n) h
+  kind_of is (entries.InterfaceMethod m n) h = absurd h
+  kind_of is (entries.NameAndType m n) h = plain_entry is (entries.NameAndType m n) h
+  kind_of is (entries.MethodHandle m n) h = absurd h
+  kind_of is (entries.MethodType n) h = absurd h
+  kind_of is (entries.InvokeDynamic m n) h = absurd h
+  kind_of is entries.Unusable h = absurd h
 
-  kinds_of : (rest : List PoolEntry) → AllByRecursion (IsPlainEntry pool) rest → AllByRecursion IsPlainKind rest
-  kinds_of [] h = tt
-  kinds_of (e ∷ rest) h = (kind_of e h.0, kinds_of rest h.1)
+  kinds_of : IsPlainPool pool → (rest : List PoolEntry) → AllByRecursion (IsPlainEntry pool) rest → AllByRecursion IsPlainKind rest
+  kinds_of is [] h = tt
+  kinds_of is (e ∷ rest) h = (kind_of is e h.0, kinds_of is rest h.1)
 
   pub plain_kinds : IsPlainPool pool → AllByRecursion IsPlainKind pool
-  plain_kinds is = kinds_of pool is.1
+  plain_kinds is = kinds_of is pool is.1
 
   -- ---- The bytes are the same
 

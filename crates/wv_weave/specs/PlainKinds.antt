@@ -1,5 +1,5 @@
 -- Pools that hold plain constants alone (JVM Specification 4.4).
-use Rattle.std.specs.Prelude.{◌≡◌, ℕ, List, [], ◌∷◌, Result, Ok, Err}
+use Rattle.std.specs.Prelude.{ℕ, ◌^◌, ◌<◌, List, Result, Ok, Err}
 use Rattle.wv_base.specs.declared.class_file.PoolEntry.{PoolEntry}
 use Rattle.wv_base.specs.declared.class_file.PoolEntry.TheVariants as entries
 use Rattle.wv_base.specs.declared.constant.Const.{Const}
@@ -10,13 +10,13 @@ use Rattle.wv_pool.specs.Adding.{needs, AreTooMany, Grows}
 use Rattle.wv_pool.specs.Numbers.{Named}
 use Rattle.wv_weave.specs.ClassConstants.{IsPlainConst}
 
--- an entry of one of the five kinds of a plain pool, whatever its numbers name
+-- an entry of one of the five kinds of a plain pool, whatever its numbers name: they have room in their fields
 abbrev pub IsPlainKind : PoolEntry → Type 0
 IsPlainKind (entries.Utf8 text) = IsPlainText text
-IsPlainKind (entries.Class name) = Unit {0}
-IsPlainKind (entries.Field class pair) = Unit {0}
-IsPlainKind (entries.Method class pair) = Unit {0}
-IsPlainKind (entries.NameAndType name descriptor) = Unit {0}
+IsPlainKind (entries.Class name) = name < 2 ^ 16
+IsPlainKind (entries.Field class pair) = (class < 2 ^ 16) × (pair < 2 ^ 16)
+IsPlainKind (entries.Method class pair) = (class < 2 ^ 16) × (pair < 2 ^ 16)
+IsPlainKind (entries.NameAndType name descriptor) = (name < 2 ^ 16) × (descriptor < 2 ^ 16)
 IsPlainKind _ = ⊥
 
 -- each constant that the pool names is plain

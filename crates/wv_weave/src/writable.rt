@@ -69,16 +69,32 @@ fn are_plain(constants: &[Const]) -> bool
     true
 }
 
-/// Whether an entry is of one of the five kinds that a plain pool has.
+/// Whether an entry is of one of the five kinds that a plain pool has. Its numbers are read for
+/// their range alone.
 fn is_plain_kind(entry: &PoolEntry) -> bool
     ensures { IsTrue result ↔ IsPlainKind entry.now }
 {
     match entry {
         PoolEntry::Utf8(text) => is_plain_text(text),
-        PoolEntry::Class { .. }
-        | PoolEntry::Field { .. }
-        | PoolEntry::Method { .. }
-        | PoolEntry::NameAndType { .. } => true,
+        PoolEntry::Class { name } => {
+            let _name = *name;
+            true
+        }
+        PoolEntry::Field {
+            class,
+            name_and_type,
+        }
+        | PoolEntry::Method {
+            class,
+            name_and_type,
+        } => {
+            let _numbers = (*class, *name_and_type);
+            true
+        }
+        PoolEntry::NameAndType { name, descriptor } => {
+            let _numbers = (*name, *descriptor);
+            true
+        }
         _ => false,
     }
 }
@@ -101,7 +117,10 @@ fn is_plain_pool(alloc: Global, entries: &[PoolEntry]) -> Result<bool, Memory>
     if entries.len() >= 65_535 || !are_plain_kinds(entries) {
         return Ok(false);
     }
-    Ok(first_break(alloc, entries)?.is_none())
+    match first_break(alloc, entries)? {
+        Some(_) => Ok(false),
+        None => Ok(true),
+    }
 }
 
 fn is_writable_insn(insn: &Insn) -> bool
