@@ -9,3 +9,4 @@ pub mod WrittenClass
 pub mod WovenForm
 pub mod WovenLimits
 pub mod KindPools
+pub mod PassedLimits

@@ -33,7 +33,7 @@ use Rattle.wv_weave.proofs.WovenForm.{all_set, read_writable, mixin_code, overwr
 
 -- ---- How many numbers constants take
 
-numbers_one : (c : Const) → HasPlainTexts c → numbers_of c ≡ 1
+pub numbers_one : (c : Const) → HasPlainTexts c → numbers_of c ≡ 1
 numbers_one (constants.Utf8 x) h = refl
 numbers_one (constants.Integer v) h = absurd h
 numbers_one (constants.Float b) h = absurd h
@@ -55,7 +55,7 @@ lacks_length pool (c ∷ cs) n all (named h r) = omega (arith, lacks_length pool
 lacks_length pool (c ∷ cs) n all (again h r) = omega (arith, lacks_length pool cs n all.1 r)
 lacks_length pool (c ∷ cs) n all (lacked {n = m} u v r) = omega (arith, numbers_one c all.0.1, lacks_length pool cs m all.1 r)
 
-all_plain : (cs : List Const) → AllByRecursion IsPlainConst cs → AllByRecursion IsPlainConst (parts_of cs)
+pub all_plain : (cs : List Const) → AllByRecursion IsPlainConst cs → AllByRecursion IsPlainConst (parts_of cs)
 all_plain [] h = tt
 all_plain (c ∷ cs) h = all_both IsPlainConst (parts_of cs) (needs c) (all_plain cs h.1) (plain_parts c h.0)
 
@@ -210,7 +210,7 @@ insns_size (insn ∷ code) = omega (arith, sum_by-cons insn_size insn code, sum_
     same (insns.NewArray kind) = refl
     same (insns.MultiArray class dimensions) = refl
 
-some_body : (body : Option Body) (P : Body → Type 0) → IsSomeAnd body P → (b : Body) × (body ≡ Some b) × P b
+pub some_body : (body : Option Body) (P : Body → Type 0) → IsSomeAnd body P → (b : Body) × (body ≡ Some b) × P b
 some_body None P h = absurd h
 some_body (Some b) P h = (b, refl, h)
 
@@ -228,7 +228,7 @@ count_set [] place method = omega arith
 count_set (old ∷ methods) zero method = omega (arith, count_pieces method_constants old methods, count_pieces method_constants method methods)
 count_set (old ∷ methods) (suc place) method = omega (arith, count_pieces method_constants old methods, count_pieces method_constants old (set methods place method), count_set methods place method)
 
-get_all : {X : Type 0} (P : X → Type 0) (xs : List X) (x : X) → AllByRecursion P xs → Contains xs x → P x
+pub get_all : {X : Type 0} (P : X → Type 0) (xs : List X) (x : X) → AllByRecursion P xs → Contains xs x → P x
 get_all P xs x all (k, within, is) = subst P is (go xs k within all)
   where
     go : (ys : List _) (i : ℕ) → i < length ys → AllByRecursion P ys → P (get_or ys i x)

@@ -25,4 +25,4 @@ pub use path::is_read;
 pub use plain_class::{is_plain, read_class};
 pub use weaver::{Woven, weave};
 pub use writable::{is_writable, plain_fits};
-pub use write::write_class;
+pub use write::{limits_are_exact, write_class};

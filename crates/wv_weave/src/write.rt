@@ -1,6 +1,8 @@
 //! Plain classes as bytes (JVM Specification 4.1).
-ghost use Rattle.std.specs.Prelude.{◌≡◌, ◌++◌, Some, OnOk, OnErr, IfOk, IfErr, IsSomeAnd};
+ghost use Rattle.std.specs.Prelude.{◌≡◌, ◌++◌, List, ℕ, Some, OnOk, IfOk, IfErr, IsSomeAnd};
 ghost use Rattle.std.specs.List.{AllByRecursion, flat_map};
+ghost use Rattle.wv_base.specs.declared.class_file.ClassFile.{ClassFile as Class};
+ghost use Rattle.wv_base.specs.declared.fault.LimitFault.{LimitFault as Fault};
 ghost use Rattle.wv_model.specs.PlainPool.{u2, u4};
 ghost use Rattle.wv_model.specs.PlainCode.{Game, SpellsInsn};
 ghost use Rattle.wv_model.specs.PlainClass.{IsCode, SpellsMethod};
@@ -179,3 +181,8 @@ pub fn write_class(alloc: Global, class: &ClassFile) -> Result<Bytes, LimitFault
     put_rest(alloc, &pool, class, &mut out)?;
     Ok(out)
 }
+
+/// A limit is passed only where no bytes spell the class with its pool as the front of theirs.
+pub fn limits_are_exact()
+    ensures { (class : Class) (fault : Fault) (bytes : List ℕ) → IsWritable class → Exceeds class fault → IsClassBytes class bytes → fault ≡ LimitFault.Memory }
+{}
