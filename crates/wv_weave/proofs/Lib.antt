@@ -10,3 +10,4 @@ pub mod WovenForm
 pub mod WovenLimits
 pub mod KindPools
 pub mod PassedLimits
+pub mod WrittenTable

@@ -18,7 +18,7 @@ use Rattle.wv_model.specs.PlainClass.{IsPlainClass, Spells, SpellsMethod}
 use Rattle.wv_pool.specs.Adding.{AreTooMany, Keeps}
 use Rattle.wv_pool.specs.Constants.{constant_of}
 use Rattle.wv_pool.specs.Numbers.{Named}
-use Rattle.wv_weave.specs.Overwrite.{IsOverwrite}
+use Rattle.wv_weave.specs.Overwrite.{IsTarget, IsOverwrite}
 use Rattle.wv_weave.specs.ClassConstants.{class_constants, parts_of, IsPlainConst}
 
 -- ---- What is written
@@ -150,4 +150,5 @@ pub record IsOverwritten (game mixin woven : ClassFile) : Type 0 where
   pub origin : Member
   pub of_mixin : Contains mixin.methods origin
   pub place : ℕ
+  pub target : IsTarget game.methods origin place
   pub made : IsOverwrite game place origin woven

@@ -1,14 +1,15 @@
 //! Which classes can be written.
-ghost use Rattle.std.specs.Prelude.{◌≡◌, ◌↔◌, List, ℕ, IsTrue, IfOk};
+ghost use Rattle.std.specs.Prelude.{◌≡◌, ◌↔◌, List, ℕ, [], ◌∷◌, IsTrue, IfOk};
 ghost use Rattle.std.specs.List.{AllByRecursion};
 ghost use Rattle.wv_base.specs.declared.class_file.ClassFile.{ClassFile as Class};
 ghost use Rattle.wv_base.specs.declared.fault.LimitFault.{LimitFault as Fault};
 ghost use Rattle.wv_model.specs.PlainCode.{Game};
 ghost use Rattle.wv_model.specs.PlainClass.{IsPlainClass};
+ghost use Rattle.wv_model.specs.MemberTable.{written_path, IsWritten};
 ghost use Rattle.wv_model.specs.PlainPool.{IsPlainUnit, IsPlainText, IsPlainPool};
 ghost use Rattle.wv_weave.specs.ClassConstants.{HasPlainTexts, IsPlainConst};
 ghost use Rattle.wv_weave.specs.PlainKinds.{IsPlainKind};
-ghost use Rattle.wv_weave.specs.Writing.{IsWritableInsn, IsWritableBody, IsWritableMethod, HasWritableForm, IsWritable, Exceeds, IsOverwritten};
+ghost use Rattle.wv_weave.specs.Writing.{IsWritableInsn, IsWritableBody, IsWritableMethod, HasWritableForm, IsWritable, IsClassBytes, Exceeds, IsOverwritten};
 
 use crate::named::class_constants;
 use std::alloc::Global;
@@ -200,10 +201,11 @@ pub fn is_writable(alloc: Global, class: &ClassFile) -> Result<bool, Memory>
     Ok(are_plain(&constants))
 }
 
-/// A plain class of the game can be written, also after a plain mixin's overwrite, which then passes
-/// no limit.
+/// A plain class of the game can be written, also after a plain mixin's overwrite, which passes no
+/// limit. What is written then are the woven files of the two classes.
 pub fn plain_fits()
     ensures read { (class : Class) (bytes : List ℕ) → IsPlainClass Game bytes class → IsWritable class }
     ensures writable { (game mixin woven : Class) → IsOverwritten game mixin woven → IsWritable woven }
     ensures within { (game mixin woven : Class) (fault : Fault) → IsOverwritten game mixin woven → Exceeds woven fault → fault ≡ LimitFault.Memory }
+    ensures written { (game mixin woven : Class) (bytes : List ℕ) → IsOverwritten game mixin woven → IsClassBytes woven bytes → IsWritten game mixin ((written_path, bytes) ∷ []) }
 {}
