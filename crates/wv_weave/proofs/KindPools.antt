@@ -1,5 +1,5 @@
 -- A pool whose entries are of plain kinds and name what their places need is plain.
-use Rattle.std.proofs.Common.{◌≡◌, ℕ, ◌+◌, ◌^◌, ◌<◌, Bool, false, List, [], ◌∷◌, ◌++◌, length, Option, Some, refl, sym, subst, ◌∙◌, ◌⊎◌, inl, inr}
+use Rattle.std.proofs.Common.{◌≡◌, ℕ, ◌+◌, ◌^◌, ◌<◌, Bool, false, List, [], ◌∷◌, length, Option, Some, refl, sym, subst, ◌∙◌, ◌⊎◌, inl, inr}
 use Rattle.std.specs.Prelude.{IsSomeAnd, IsTrue}
 use Rattle.std.specs.List.{AllByRecursion}
 use Rattle.wv_base.specs.declared.class_file.PoolEntry.{PoolEntry}
@@ -11,7 +11,7 @@ use Rattle.wv_model.specs.PlainPool as plain
 use Rattle.wv_model.specs.PlainPool.{IsPlainEntry, IsPlainPool}
 use Rattle.wv_pool.specs.Reading.{is_wide}
 use Rattle.wv_pool.specs.Entries.{IsEntry, AreSlots, IsLayout}
-use Rattle.wv_pool.specs.References.{entry_of, text_of, class_of, pair_of, IsClass, IsText, IsFieldPair, IsMethodPair, HasAngle, IsSound, IsPool, FirstBreaks, BreaksAt}
+use Rattle.wv_pool.specs.References.{entry_of, text_of, class_of, pair_of, IsClass, IsText, HasAngle, IsSound, FirstBreaks, BreaksAt}
 use Rattle.wv_pool.proofs.SoundPools.{some_and, pair_entry, class_entry, sound_at}
 use Rattle.wv_weave.specs.PlainKinds.{IsPlainKind}
 use Rattle.wv_weave.proofs.PlainNames.{same_entry, text_there}
@@ -93,20 +93,27 @@ module _ (pool : List PoolEntry) (sound : AllByRecursion (IsSound pool) pool) wh
       let o = class_at a h.0 in
       let q = some_and (pair_of pool b) (λ pair. IsText pool pair.1 IsMethodDescriptor → ⊥) h.1 in
       let p = pair_at b q.0 q.1 in
-      let m : MemberReference = record { owner = o.0; name = p.0; descriptor = p.1 } in
-      (m, (o.1, p.4), elim p.6 [
-        | inl field ↦ field
-        | inr method ↦ absurd (q.2 (text_meets q.0.1 p.1 IsMethodDescriptor p.3 method))
-      ])
+      let m : MemberReference = record { owner = o.0; name = p.0; descriptor = p.1 } in (
+        m,
+        (o.1, p.4),
+        elim p.6 [
+          | inl field ↦ field
+          | inr method ↦ absurd (q.2 (text_meets q.0.1 p.1 IsMethodDescriptor p.3 method))
+        ],
+      )
   kind_plain (entries.Method a b) k h =
       let o = class_at a h.0 in
       let q = some_and (pair_of pool b) (λ pair. (IsText pool pair.1 IsFieldDescriptor → ⊥) × (IsText pool pair.0 HasAngle → ⊥)) h.1 in
       let p = pair_at b q.0 q.1 in
-      let m : MemberReference = record { owner = o.0; name = p.0; descriptor = p.1 } in
-      (m, (o.1, p.4), method_name p.0 p.5 (λ angle. q.2.1 (text_meets q.0.0 p.0 HasAngle p.2 angle)), elim p.6 [
-        | inl field ↦ absurd (q.2.0 (text_meets q.0.1 p.1 IsFieldDescriptor p.3 field))
-        | inr method ↦ method
-      ])
+      let m : MemberReference = record { owner = o.0; name = p.0; descriptor = p.1 } in (
+        m,
+        (o.1, p.4),
+        method_name p.0 p.5 (λ angle. q.2.1 (text_meets q.0.0 p.0 HasAngle p.2 angle)),
+        elim p.6 [
+          | inl field ↦ absurd (q.2.0 (text_meets q.0.1 p.1 IsFieldDescriptor p.3 field))
+          | inr method ↦ method
+        ],
+      )
   kind_plain (entries.NameAndType a b) k h =
       let t = text_at a (λ x. IsTrue (is_unqualified x)) h.0 in
       let u = text_at b (λ y. IsFieldDescriptor y ⊎ IsMethodDescriptor y) h.1 in

@@ -1,6 +1,6 @@
 -- A limit is passed only where no bytes spell the class with its pool as the front.
-use Rattle.std.proofs.Common.{◌≡◌, ℕ, ◌+◌, ◌-◌, ◌<◌, ◌≤◌, eqb, Bool, true, false, List, [], ◌∷◌, ◌++◌, length, Option, Some, refl, sym, ap, subst, ◌∙◌, ◌⊎◌, inl, inr, arith}
-use Rattle.std.specs.Prelude.{Contains, IsSomeAnd, ◌||◌}
+use Rattle.std.proofs.Common.{◌≡◌, ℕ, ◌+◌, ◌-◌, ◌<◌, ◌≤◌, eqb, Bool, true, false, List, [], ◌∷◌, ◌++◌, length, Option, Some, refl, sym, ap, subst, ◌∙◌, inl, inr, arith}
+use Rattle.std.specs.Prelude.{IsSomeAnd, ◌||◌}
 use Rattle.std.specs.List.{AllByRecursion, AllZip, IsDistinct, list_any}
 use Rattle.std.proofs.lemmas.Bool.{cases_lt, eqb-true, ne_eqb}
 use Rattle.std.proofs.lemmas.List.{length-append}
@@ -64,8 +64,8 @@ module _ (base more : List PoolEntry) (sound : AllByRecursion (IsSound base) bas
   -- no other constant has the number
   apart : (cs : List Const) (c : Const) (q : ℕ) → (IsAmong cs c → ⊥) → constant_of (base ++ more) (length base + 1 + q) ≡ Some c → (p : ℕ) → IsOffset cs p → eqb q p ≡ false
   apart cs c q other names p o = ne_eqb q p (λ (same : q ≡ p).
-    let is : o.constant ≡ c = some_is o.constant c (sym o.names ∙ ap (λ (n : ℕ). constant_of (base ++ more) (length base + 1 + n)) (sym same) ∙ names) in
-    other (subst (IsAmong cs) is o.among))
+      let is : o.constant ≡ c = some_is o.constant c (sym o.names ∙ ap (λ (n : ℕ). constant_of (base ++ more) (length base + 1 + n)) (sym same) ∙ names) in
+      other (subst (IsAmong cs) is o.among))
 
   offsets_of : (cs : List Const) (n : ℕ) → AllByRecursion IsPlainConst cs → AllByRecursion (Named (base ++ more)) cs → Lacks base cs n → Offsets cs n
   unfolding IsDistinct
@@ -114,10 +114,11 @@ spelled_short pool (method ∷ methods) [] h = absurd h
 spelled_short pool (method ∷ methods) (part ∷ parts) h =
     let s = h.0 in
     let insns = s.attributes_spelled.1.meets.insns in
-    let code = s.attributes_spelled.1.meets.code in
-    (subst (λ (o : Option Body). IsSomeAnd o (λ body. code_size body.insns ≤ 65535)) (sym s.has_body)
-    (omega (arith, insns.short, size_spelled pool s.body.insns code (record { parts = insns.parts; each = insns.each; joined = insns.joined }))),
-    spelled_short pool methods parts h.1)
+    let code = s.attributes_spelled.1.meets.code in (
+      subst (λ (o : Option Body). IsSomeAnd o (λ body. code_size body.insns ≤ 65535)) (sym s.has_body)
+          (omega (arith, insns.short, size_spelled pool s.body.insns code (record { parts = insns.parts; each = insns.each; joined = insns.joined }))),
+      spelled_short pool methods parts h.1,
+    )
 
 too_long : (body : Option Body) → IsSomeAnd body (λ b. code_size b.insns ≤ 65535) → IsSomeAnd body (λ b. 65535 < code_size b.insns) → ⊥
 too_long body h k =

@@ -1,5 +1,5 @@
 -- A plain pool is a pool of plain constants, and such a pool is plain.
-use Rattle.std.proofs.Common.{◌≡◌, ℕ, zero, suc, ◌+◌, ◌^◌, ◌<◌, ◌≤◌, Bool, true, false, List, [], ◌∷◌, ◌++◌, length, Option, Some, None, refl, sym, ap, subst, ◌∙◌, ◌⊎◌, inl, inr, arith}
+use Rattle.std.proofs.Common.{◌≡◌, ℕ, zero, suc, ◌+◌, ◌^◌, ◌<◌, Bool, true, false, List, [], ◌∷◌, ◌++◌, length, Option, Some, None, refl, sym, ap, subst, ◌∙◌, ◌⊎◌, arith}
 use Rattle.std.specs.Prelude.{slice_get, IsTrue}
 use Rattle.std.specs.Option.{option_and_then}
 use Rattle.std.specs.List.{flat_map, AllByRecursion}
@@ -10,7 +10,6 @@ use Rattle.wv_base.specs.declared.class_file.PoolEntry.{PoolEntry}
 use Rattle.wv_base.specs.declared.class_file.PoolEntry.TheVariants as entries
 use Rattle.wv_base.specs.declared.constant.Const.{Const}
 use Rattle.wv_base.specs.declared.constant.Const.TheVariants as constants
-use Rattle.wv_base.specs.declared.constant.MemberReference.{MemberReference}
 use Rattle.wv_base.specs.Modified.{unit_spelling, spelling, IsName}
 use Rattle.wv_base.specs.Names.{is_unqualified, is_method_name}
 use Rattle.wv_base.specs.Descriptor.{IsFieldDescriptor, IsMethodDescriptor, IsClassConstant}
@@ -68,7 +67,6 @@ method_name name is none = go (is_method_name name) (λ h. none (is, h))
     go false h = absurd (h (λ e. cc))
 
 module _ (pool : List PoolEntry) where
-
   -- ---- A plain pool is a pool
 
   module _ (is : IsPlainPool pool) where
@@ -86,9 +84,12 @@ module _ (pool : List PoolEntry) where
 
     pub plain_pair : (n : ℕ) (x y : List ℕ) → IsNameAndType pool n x y → IsPlainText x × IsPlainText y × IsTrue (is_unqualified x) × (IsFieldDescriptor y ⊎ IsMethodDescriptor y)
     plain_pair n x y (a, b, entry, text, other) =
-        let h = plain_at n (entries.NameAndType a b) entry in
-        (plain_text a x text, plain_text b y other, subst (λ (t : List ℕ). IsTrue (is_unqualified t)) (text_is h.0 x (sym h.2 ∙ text)) h.4,
-        subst (λ (t : List ℕ). IsFieldDescriptor t ⊎ IsMethodDescriptor t) (text_is h.1 y (sym h.3 ∙ other)) h.5)
+        let h = plain_at n (entries.NameAndType a b) entry in (
+          plain_text a x text,
+          plain_text b y other,
+          subst (λ (t : List ℕ). IsTrue (is_unqualified t)) (text_is h.0 x (sym h.2 ∙ text)) h.4,
+          subst (λ (t : List ℕ). IsFieldDescriptor t ⊎ IsMethodDescriptor t) (text_is h.1 y (sym h.3 ∙ other)) h.5,
+        )
 
     small : (n : ℕ) (c : Const) → constant_of pool n ≡ Some c → n < 2 ^ 16
     small n c h = omega (arith, number_in pool n c h, is.0)

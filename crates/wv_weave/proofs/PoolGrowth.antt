@@ -1,5 +1,5 @@
 -- What a pool becomes as constants are added, and when they are too many.
-use Rattle.std.proofs.Common.{◌≡◌, ℕ, ◌+◌, ◌<◌, ◌≤◌, suc, true, false, List, [], ◌∷◌, ◌++◌, length, take, drop, get_or, Err, refl, sym, ap, subst, ◌∙◌, ◌⊎◌, inl, inr, arith, add-one}
+use Rattle.std.proofs.Common.{◌≡◌, ℕ, ◌+◌, ◌<◌, ◌≤◌, true, false, List, [], ◌∷◌, ◌++◌, length, take, drop, get_or, Err, sym, ap, subst, ◌∙◌, ◌⊎◌, inl, inr, arith, add-one}
 use Rattle.std.proofs.Math.Seq.{take-suc}
 use Rattle.std.specs.List.{AllByRecursion}
 use Rattle.std.proofs.lemmas.Grind.{common_steps}
@@ -13,7 +13,7 @@ use Rattle.wv_base.specs.declared.fault.LimitFault.TheVariants as faults
 use Rattle.wv_model.specs.PlainPool.{IsPlainPool, Refers, IsClass, IsNameAndType}
 use Rattle.wv_pool.specs.References.{IsPool}
 use Rattle.wv_pool.specs.Numbers.{Named}
-use Rattle.wv_pool.specs.Adding.{needs, numbers_of, class_needs, pair_needs, member_needs, IsAmong, Lacks, none, named, again, lacked, AreTooMany, Keeps, Grows}
+use Rattle.wv_pool.specs.Adding.{needs, class_needs, pair_needs, member_needs, IsAmong, Lacks, none, named, again, lacked, AreTooMany, Keeps, Grows}
 use Rattle.wv_pool.proofs.Lacking.{later, grows_start}
 use Rattle.wv_weave.specs.ClassConstants.{parts_of, HasPlainTexts, IsPlainConst}
 use Rattle.wv_weave.specs.PlainKinds.{ArePlain, AddsConst}
@@ -208,11 +208,13 @@ plain_parts (constants.InvokeDynamic k x y) h = absurd h.1
 pub added : (old new : List PoolEntry) (c : Const) → ArePlain old → IsPlainConst c → (Named old c → new ≡ old) → Named old c ⊎ Grows old (needs c) new → ArePlain new × Grows old (needs c) new
 added old new c are plain same (inl there) =
     subst (λ (p : List PoolEntry). ArePlain p × Grows old (needs c) p) (sym (same there)) (are, grows_same old (needs c) (parts_named old c plain.1 there))
-added old new c are plain same (inr g) =
-    (λ d h. elim (g.only d h) [
-      | inl old ↦ are d old
-      | inr among ↦ all_among IsPlainConst (needs c) d (plain_parts c plain) among
-    ], g)
+added old new c are plain same (inr g) = (
+  λ d h. elim (g.only d h) [
+    | inl old ↦ are d old
+    | inr among ↦ all_among IsPlainConst (needs c) d (plain_parts c plain) among
+  ],
+  g,
+)
 
 -- a pool to which some of the constants were added
 pub record HasAdded (front : List PoolEntry) (done : List Const) (pool : List PoolEntry) : Type 0 where

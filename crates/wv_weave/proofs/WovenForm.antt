@@ -1,5 +1,5 @@
 -- A class that was read can be written, and so can one in which a method of the mixin overwrites one.
-use Rattle.std.proofs.Common.{◌≡◌, ℕ, zero, suc, ◌==◌, Bool, true, false, cond, MatchBool, List, [], ◌∷◌, ◌++◌, map, codes, length, set, Option, Some, None, option_map, refl, sym, ap, subst, ◌∙◌, inl, inr, arith, rules, lit<}
+use Rattle.std.proofs.Common.{◌≡◌, ℕ, zero, suc, ◌==◌, Bool, true, false, cond, MatchBool, List, [], ◌∷◌, map, codes, set, Option, Some, option_map, refl, sym, subst, inl, arith, rules, lit<}
 use Rattle.std.specs.Prelude.{slice_get, slice_set, bytes_eq, IsSomeAnd}
 use Rattle.std.specs.List.{flat_map, AllByRecursion, AllZip}
 use Rattle.std.proofs.lemmas.List.{length-set}
@@ -8,22 +8,20 @@ use Rattle.wv_base.specs.declared.class_file.Body.{Body}
 use Rattle.wv_base.specs.declared.class_file.ClassFile.{ClassFile}
 use Rattle.wv_base.specs.declared.class_file.Member.{Member}
 use Rattle.wv_base.specs.declared.class_file.PoolEntry.{PoolEntry}
-use Rattle.wv_base.specs.declared.constant.Const.{Const}
 use Rattle.wv_base.specs.declared.constant.Const.TheVariants as constants
 use Rattle.wv_base.specs.declared.constant.MemberReference.{MemberReference}
 use Rattle.wv_base.specs.declared.insn.Insn.{Insn}
 use Rattle.wv_base.specs.declared.insn.Insn.TheVariants as insns
 use Rattle.wv_base.specs.Descriptor.{IsClassConstant}
 use Rattle.wv_base.specs.Opcodes.{getstatic}
-use Rattle.wv_model.specs.PlainPool.{IsPlainText, IsText, IsField, IsMethod, IsPlainPool}
-use Rattle.wv_model.specs.PlainCode.{Role, Game, Mixin, class_name, IsPlainInsn, IsOperand, SpellsInsn, SpellsBody}
+use Rattle.wv_model.specs.PlainPool.{IsPlainText, IsField, IsMethod}
+use Rattle.wv_model.specs.PlainCode.{Role, Game, Mixin, class_name, IsPlainInsn, IsOperand, SpellsInsn}
 use Rattle.wv_model.specs.PlainClass.{IsCode, SpellsMethodAttributes, SpellsMethod, IsPlainBody, IsPlainMethod, Spells, IsPlainClass}
 use Rattle.wv_model.specs.MemberTable.{meaning_of, read_in_target, body_in_target, overwritten}
-use Rattle.wv_pool.specs.Allowed.{IsClassText}
 use Rattle.wv_pool.specs.Constants.{constant_of}
 use Rattle.wv_pool.specs.Numbers.{Named}
 use Rattle.wv_pool.proofs.Behind.{some_is}
-use Rattle.wv_weave.specs.ClassConstants.{operand, insn_constants, code_constants, method_constants, class_constants, HasPlainTexts, IsPlainConst}
+use Rattle.wv_weave.specs.ClassConstants.{operand, insn_constants, code_constants, method_constants, class_constants, IsPlainConst}
 use Rattle.wv_weave.specs.Overwrite.{IsOverwrite}
 use Rattle.wv_weave.specs.Writing.{IsWritableInsn, IsWritableBody, IsWritableMethod, IsWritable}
 use Rattle.wv_weave.proofs.PlainNames.{names_text, names_class, names_field, names_method}
@@ -73,11 +71,14 @@ code_there Mixin pool body bytes h = (h.0, h.2)
 method_named : (role : Role) (pool : List PoolEntry) (method : Member) (bytes : List ℕ) → SpellsMethod role pool method bytes → AllByRecursion (Named pool) (method_constants method)
 method_named role pool method bytes h =
     let code = (code_there role pool h.body h.attributes h.attributes_spelled).1 in
-    let insns = code.meets.insns in
-    ((h.name_number, names_text pool h.name_number method.name h.name),
-    ((h.descriptor_number, names_text pool h.descriptor_number method.descriptor h.descriptor),
-    subst (λ (o : Option Body). AllByRecursion (Named pool) (code_constants o)) (sym h.has_body)
-    ((code.number, names_text pool code.number (codes "Code") code.named), insns_named pool h.body.insns insns.parts insns.each)))
+    let insns = code.meets.insns in (
+      (h.name_number, names_text pool h.name_number method.name h.name),
+      (
+        (h.descriptor_number, names_text pool h.descriptor_number method.descriptor h.descriptor),
+        subst (λ (o : Option Body). AllByRecursion (Named pool) (code_constants o)) (sym h.has_body)
+            ((code.number, names_text pool code.number (codes "Code") code.named), insns_named pool h.body.insns insns.parts insns.each),
+      ),
+    )
 
 methods_named : (role : Role) (pool : List PoolEntry) (methods : List Member) (parts : List (List ℕ)) → AllZip (SpellsMethod role pool) methods parts → AllByRecursion (Named pool) (flat_map method_constants methods)
 methods_named role pool [] parts h = tt
@@ -86,10 +87,13 @@ methods_named role pool (method ∷ methods) (part ∷ parts) h =
     pieces_hold (Named pool) method_constants method methods (method_named role pool method part h.0) (methods_named role pool methods parts h.1)
 
 pub class_named : (role : Role) (class : ClassFile) (bytes : List ℕ) → Spells role bytes class → AllByRecursion (Named class.pool) (class_constants class)
-class_named role class bytes s =
-    ((s.this_number, names_class class.pool s.this_number class.name s.this),
-    ((s.super_number, names_class class.pool s.super_number class.superclass s.super_class),
-    methods_named role class.pool class.methods s.parts s.methods))
+class_named role class bytes s = (
+  (s.this_number, names_class class.pool s.this_number class.name s.this),
+  (
+    (s.super_number, names_class class.pool s.super_number class.superclass s.super_class),
+    methods_named role class.pool class.methods s.parts s.methods,
+  ),
+)
 
 pub constants_plain : (role : Role) (class : ClassFile) (bytes : List ℕ) → Spells role bytes class → AllByRecursion IsPlainConst (class_constants class)
 constants_plain role class bytes s = all_weaker (Named class.pool) IsPlainConst (class_constants class) (plain_constants class.pool s.pool) (class_named role class bytes s)
@@ -120,7 +124,7 @@ method_form pool method bytes h plain =
     let code : IsPlainBody Game method.descriptor h.body = subst (λ (o : Option Body). IsSomeAnd o (IsPlainBody Game method.descriptor)) h.has_body plain.code in
     record {
       code = subst (λ (o : Option Body). IsSomeAnd o IsWritableBody) (sym h.has_body)
-      (record { insns = plain_insns Game h.body.insns code.plain; no_ranges = body.no_ranges; no_frames = body.no_frames; none_kept = body.none_kept });
+          (record { insns = plain_insns Game h.body.insns code.plain; no_ranges = body.no_ranges; no_frames = body.no_frames; none_kept = body.none_kept });
       no_value = h.no_value;
       no_throws = h.no_throws;
       no_notes = h.notes;

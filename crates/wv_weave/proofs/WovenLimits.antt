@@ -3,7 +3,7 @@
 use Rattle.std.proofs.Common.{◌≡◌, ℕ, zero, suc, ◌+◌, ◌*◌, ◌<◌, ◌≤◌, ◌==◌, Bool, true, false, cond, List, [], ◌∷◌, ◌++◌, map, codes, length, set, get_or, Option, Some, None, option_map, refl, sym, ap, subst, ◌∙◌, inl, inr, arith}
 use Rattle.std.specs.Prelude.{Contains, slice_set, IsSomeAnd}
 use Rattle.std.specs.List.{concat, flat_map, AllByRecursion, AllZip}
-use Rattle.std.proofs.lemmas.List.{append_assoc, length-append}
+use Rattle.std.proofs.lemmas.List.{length-append}
 use Rattle.std.proofs.lemmas.List.Concat.{flat_map-cons}
 use Rattle.std.proofs.lemmas.List.Sums.{sum_by-cons}
 use Rattle.wv_base.specs.declared.class_file.Body.{Body}
@@ -20,7 +20,7 @@ use Rattle.wv_base.specs.declared.insn.Insn.{Insn}
 use Rattle.wv_base.specs.declared.insn.Insn.TheVariants as insns
 use Rattle.wv_base.specs.Opcodes.{getstatic}
 use Rattle.wv_model.specs.PlainPool.{u2, u4, entry_bytes, pool_bytes, IsPlainEntry}
-use Rattle.wv_model.specs.PlainCode.{Role, Game, Mixin, SpellsInsn}
+use Rattle.wv_model.specs.PlainCode.{Role, Game, Mixin}
 use Rattle.wv_model.specs.PlainClass.{head_bytes, most_bytes, IsCode, SpellsMethodAttributes, SpellsMethod, Spells, IsPlainClass}
 use Rattle.wv_model.specs.MemberTable.{read_in_target, body_in_target, overwritten}
 use Rattle.wv_pool.specs.Adding.{needs, numbers_of, Lacks, none, named, again, lacked, AreTooMany}
@@ -153,9 +153,10 @@ methods_short : (role : Role) (pool : List PoolEntry) (methods : List Member) (p
 methods_short role pool [] parts room h few = tt
 methods_short role pool (method ∷ methods) [] room h few = absurd h
 methods_short role pool (method ∷ methods) (part ∷ parts) room h few =
-    let joined : concat (part ∷ parts) ≡ part ++ concat parts = refl in
-    (subst (λ (o : Option Body). IsSomeAnd o (λ body. code_size body.insns ≤ room)) (sym h.0.has_body) (omega (arith, method_room role pool method part h.0, few, ap length joined, length-append part (concat parts))),
-    methods_short role pool methods parts room h.1 (omega (arith, few, ap length joined, length-append part (concat parts))))
+    let joined : concat (part ∷ parts) ≡ part ++ concat parts = refl in (
+      subst (λ (o : Option Body). IsSomeAnd o (λ body. code_size body.insns ≤ room)) (sym h.0.has_body) (omega (arith, method_room role pool method part h.0, few, ap length joined, length-append part (concat parts))),
+      methods_short role pool methods parts room h.1 (omega (arith, few, ap length joined, length-append part (concat parts))),
+    )
 
 entry_room : (pool : List PoolEntry) (e : PoolEntry) → IsPlainEntry pool e → 1 ≤ length (entry_bytes e)
 entry_room pool (entries.Utf8 x) h = omega arith
@@ -181,9 +182,13 @@ entries_room pool (e ∷ rest) h = omega (arith, ap length (flat_map-cons entry_
 -- the pool and the methods are within the bytes
 class_room : (role : Role) (class : ClassFile) (bytes : List ℕ) → (s : Spells role bytes class) → length class.pool + length (concat s.parts) ≤ length bytes
 class_room role class bytes s =
-    omega (arith, ap length s.spelled,
-    length_10 (head_bytes class) (pool_bytes class.pool) (u2 class.flags.0) (u2 s.this_number) (u2 s.super_number) (u2 0) (u2 0) (u2 (length class.methods)) (concat s.parts) s.attributes,
-    length-append (u2 (length class.pool + 1)) (flat_map entry_bytes class.pool), entries_room class.pool class.pool s.pool.1)
+    omega (
+      arith,
+      ap length s.spelled,
+      length_10 (head_bytes class) (pool_bytes class.pool) (u2 class.flags.0) (u2 s.this_number) (u2 s.super_number) (u2 0) (u2 0) (u2 (length class.methods)) (concat s.parts) s.attributes,
+      length-append (u2 (length class.pool + 1)) (flat_map entry_bytes class.pool),
+      entries_room class.pool class.pool s.pool.1,
+    )
 
 most : most_bytes ≡ 4096
 unfolding most_bytes
@@ -251,9 +256,16 @@ module _ (game mixin woven : ClassFile) (origin : Member) (bytes other : List �
 
   made_count : count (class_constants (record game { methods = slice_set game.methods place (overwritten by.old origin) })) ≤ 16391
   made_count =
-      omega (arith, count_then (constants.Class game.name ∷ constants.Class game.superclass ∷ []) (flat_map method_constants (set game.methods place (overwritten by.old origin))),
-      count_set game.methods place (overwritten by.old origin), short_count (overwritten by.old origin) 4096 (overwritten_short by.old origin 4096 origin_short),
-      methods_count Game game.pool game.methods read.spelled.parts read.spelled.methods, class_room Game game bytes read.spelled, read.small, most)
+      omega (
+        arith,
+        count_then (constants.Class game.name ∷ constants.Class game.superclass ∷ []) (flat_map method_constants (set game.methods place (overwritten by.old origin))),
+        count_set game.methods place (overwritten by.old origin),
+        short_count (overwritten by.old origin) 4096 (overwritten_short by.old origin 4096 origin_short),
+        methods_count Game game.pool game.methods read.spelled.parts read.spelled.methods,
+        class_room Game game bytes read.spelled,
+        read.small,
+        most,
+      )
 
   pub pool_fits : AreTooMany woven.pool (parts_of (class_constants woven)) → ⊥
   pool_fits t =

@@ -68,9 +68,9 @@ body_spelled pool body code old numbered new form insns short stack_fits locals_
         spelled = refl;
       };
       longer = longer
-      ∙ ap (λ (s : List ℕ). ((((((s ++ u4 (length code + 12)) ++ u2 body.max_stack) ++ u2 body.max_locals) ++ u4 (length code)) ++ code) ++ u2 0) ++ u2 0) start
-      ∙ group_8 old (u2 n) (u4 (length code + 12)) (u2 body.max_stack) (u2 body.max_locals) (u4 (length code)) code (u2 0) (u2 0)
-      ∙ ap (λ (k : ℕ). old ++ (u2 n ++ (u4 k ++ content))) (sym size);
+          ∙ ap (λ (s : List ℕ). ((((((s ++ u4 (length code + 12)) ++ u2 body.max_stack) ++ u2 body.max_locals) ++ u4 (length code)) ++ code) ++ u2 0) ++ u2 0) start
+          ∙ group_8 old (u2 n) (u4 (length code + 12)) (u2 body.max_stack) (u2 body.max_locals) (u4 (length code)) code (u2 0) (u2 0)
+          ∙ ap (λ (k : ℕ). old ++ (u2 n ++ (u4 k ++ content))) (sym size);
     }
 
 -- ---- Methods
@@ -100,9 +100,9 @@ method_spelled pool method body old a b d e new form is flags_fit flags name des
         spelled = refl;
       };
       longer = code.longer
-      ∙ ap (λ (s : List ℕ). s ++ code.bytes) (count ∙ ap (λ (s : List ℕ). s ++ u2 1) (descriptor.longer ∙ ap (λ (s : List ℕ). b ++ s) descriptor.spelled.2
-      ∙ ap (λ (s : List ℕ). s ++ u2 k) (name.longer ∙ ap (λ (s : List ℕ). a ++ s) name.spelled.2 ∙ ap (λ (s : List ℕ). s ++ u2 n) flags)))
-      ∙ group_5 old (u2 method.flags.0) (u2 n) (u2 k) (u2 1) code.bytes;
+          ∙ ap (λ (s : List ℕ). s ++ code.bytes) (count ∙ ap (λ (s : List ℕ). s ++ u2 1) (descriptor.longer ∙ ap (λ (s : List ℕ). b ++ s) descriptor.spelled.2
+          ∙ ap (λ (s : List ℕ). s ++ u2 k) (name.longer ∙ ap (λ (s : List ℕ). a ++ s) name.spelled.2 ∙ ap (λ (s : List ℕ). s ++ u2 n) flags)))
+          ∙ group_5 old (u2 method.flags.0) (u2 n) (u2 k) (u2 1) code.bytes;
     }
 
 -- ---- The class
@@ -128,10 +128,10 @@ rest_spelled pool class old a b d e f g h new flags_fit flags name super interfa
         spelled = refl;
       };
       longer = attributes
-      ∙ ap (λ (s : List ℕ). s ++ u2 0) (methods.longer ∙ ap (λ (s : List ℕ). g ++ s) methods.spelled.joined ∙ ap (λ (s : List ℕ). s ++ concat parts) (count
-      ∙ ap (λ (s : List ℕ). s ++ u2 (length class.methods)) (fields ∙ ap (λ (s : List ℕ). s ++ u2 0) (interfaces ∙ ap (λ (s : List ℕ). s ++ u2 0)
-      (super.longer ∙ ap (λ (s : List ℕ). b ++ s) super.spelled.2 ∙ ap (λ (s : List ℕ). s ++ u2 k) (name.longer ∙ ap (λ (s : List ℕ). a ++ s) name.spelled.2 ∙ ap (λ (s : List ℕ). s ++ u2 n) flags))))))
-      ∙ group_8 old (u2 class.flags.0) (u2 n) (u2 k) (u2 0) (u2 0) (u2 (length class.methods)) (concat parts) (u2 0);
+          ∙ ap (λ (s : List ℕ). s ++ u2 0) (methods.longer ∙ ap (λ (s : List ℕ). g ++ s) methods.spelled.joined ∙ ap (λ (s : List ℕ). s ++ concat parts) (count
+          ∙ ap (λ (s : List ℕ). s ++ u2 (length class.methods)) (fields ∙ ap (λ (s : List ℕ). s ++ u2 0) (interfaces ∙ ap (λ (s : List ℕ). s ++ u2 0)
+          (super.longer ∙ ap (λ (s : List ℕ). b ++ s) super.spelled.2 ∙ ap (λ (s : List ℕ). s ++ u2 k) (name.longer ∙ ap (λ (s : List ℕ). a ++ s) name.spelled.2 ∙ ap (λ (s : List ℕ). s ++ u2 n) flags))))))
+          ∙ group_8 old (u2 class.flags.0) (u2 n) (u2 k) (u2 0) (u2 0) (u2 (length class.methods)) (concat parts) (u2 0);
     }
 
 with_more : (class : ClassFile) (more : List PoolEntry) (out new : List ℕ) → IsWritable class → IsPlainPool (class.pool ++ more) → class.version.minor < 2 ^ 16 → class.version.major < 2 ^ 16
@@ -139,31 +139,31 @@ with_more : (class : ClassFile) (more : List PoolEntry) (out new : List ℕ) →
 with_more class more out new form is minor_fits major_fits head rest =
     let tail : List ℕ = u2 class.flags.0 ++ (u2 rest.spelled.this_number ++ (u2 rest.spelled.super_number ++ (u2 0 ++ (u2 0 ++ (u2 (length class.methods) ++ (concat rest.spelled.parts ++ u2 0)))))) in
     record {
-  more = more;
-  spelled = record {
-    pool = is;
-    this_number = rest.spelled.this_number;
-    this = rest.spelled.this;
-    super_number = rest.spelled.super_number;
-    super_class = rest.spelled.super_class;
-    no_interfaces = form.form.no_interfaces;
-    no_fields = form.form.no_fields;
-    parts = rest.spelled.parts;
-    methods = rest.spelled.methods;
-    methods_fit = form.form.methods_fit;
-    attributes = u2 0;
-    attributes_spelled = refl;
-    notes = form.form.no_notes;
-    none_kept = form.form.none_kept;
-    flags_fit = rest.spelled.flags_fit;
-    minor_fits = minor_fits;
-    major_fits = major_fits;
-    spelled = rest.longer
-    ∙ ap (λ (s : List ℕ). out ++ s) rest.spelled.spelled
-    ∙ ap (λ (s : List ℕ). s ++ tail) (head ∙ ap (λ (s : List ℕ). ((magic ++ u2 class.version.minor) ++ u2 class.version.major) ++ s) (same_bytes (class.pool ++ more) is))
-    ∙ group_head magic (u2 class.version.minor) (u2 class.version.major) (plain.pool_bytes (class.pool ++ more)) tail;
-  };
-}
+      more = more;
+      spelled = record {
+        pool = is;
+        this_number = rest.spelled.this_number;
+        this = rest.spelled.this;
+        super_number = rest.spelled.super_number;
+        super_class = rest.spelled.super_class;
+        no_interfaces = form.form.no_interfaces;
+        no_fields = form.form.no_fields;
+        parts = rest.spelled.parts;
+        methods = rest.spelled.methods;
+        methods_fit = form.form.methods_fit;
+        attributes = u2 0;
+        attributes_spelled = refl;
+        notes = form.form.no_notes;
+        none_kept = form.form.none_kept;
+        flags_fit = rest.spelled.flags_fit;
+        minor_fits = minor_fits;
+        major_fits = major_fits;
+        spelled = rest.longer
+            ∙ ap (λ (s : List ℕ). out ++ s) rest.spelled.spelled
+            ∙ ap (λ (s : List ℕ). s ++ tail) (head ∙ ap (λ (s : List ℕ). ((magic ++ u2 class.version.minor) ++ u2 class.version.major) ++ s) (same_bytes (class.pool ++ more) is))
+            ∙ group_head magic (u2 class.version.minor) (u2 class.version.major) (plain.pool_bytes (class.pool ++ more)) tail;
+      };
+    }
 
 pub class_spelled : (class : ClassFile) (pool : List PoolEntry) (out new : List ℕ) → IsWritable class → IsPoolOf class.pool (class_constants class) pool → class.version.minor < 2 ^ 16 → class.version.major < 2 ^ 16
     → out ≡ ((magic ++ u2 class.version.minor) ++ u2 class.version.major) ++ entire.pool_bytes pool → Appends (IsRest pool class) out new → IsClassBytes class new

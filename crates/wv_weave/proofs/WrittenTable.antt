@@ -1,6 +1,6 @@
 -- The bytes of a class that was overwritten are what is written for the two classes.
-use Rattle.std.proofs.Common.{◌≡◌, ℕ, zero, suc, ◌+◌, ◌<◌, ◌==◌, Bool, true, false, cond, List, [], ◌∷◌, ◌++◌, map, codes, length, set, get_or, Option, Some, option_map, refl, sym, ap, subst, ◌∙◌, ◌⊎◌, inl, inr, arith, add-one}
-use Rattle.std.specs.Prelude.{AllPairs, Contains, slice_get, slice_set, bytes_eq, IsSomeAnd}
+use Rattle.std.proofs.Common.{◌≡◌, ℕ, zero, suc, ◌<◌, List, [], ◌∷◌, ◌++◌, map, length, set, get_or, Option, Some, option_map, refl, sym, ap, subst, ◌∙◌, ◌⊎◌, inl, inr, arith}
+use Rattle.std.specs.Prelude.{AllPairs, Contains, slice_get, IsSomeAnd}
 use Rattle.std.specs.List.{AllByRecursion, AllZip, zip}
 use Rattle.wv_base.specs.declared.class_file.Body.{Body}
 use Rattle.wv_base.specs.declared.class_file.ClassFile.{ClassFile}
@@ -9,12 +9,11 @@ use Rattle.wv_base.specs.declared.constant.MemberReference.{MemberReference}
 use Rattle.wv_base.specs.declared.insn.Insn.{Insn}
 use Rattle.wv_base.specs.declared.insn.Insn.TheVariants as insns
 use Rattle.wv_base.specs.Opcodes.{return}
-use Rattle.wv_model.specs.PlainCode.{Role, Game, Mixin, class_name, system_out, println, IsOwnMethod, IsPlainReference, IsPlainInsn, EndsWithReturn}
-use Rattle.wv_model.specs.PlainTyping.{Stack, Row, iconst, push, arithmetic, dropped, returned, read_out, printed, called, Leads, HasTyping, Verifies}
-use Rattle.wv_model.specs.PlainClass.{AreSame, IsPlainBody, IsPlainMethod, IsPlainClass, Spells}
+use Rattle.wv_model.specs.PlainCode.{Game, Mixin, class_name, IsPlainReference, IsPlainInsn, EndsWithReturn}
+use Rattle.wv_model.specs.PlainTyping.{Stack, Row, iconst, push, arithmetic, dropped, returned, read_out, printed, called, Leads}
+use Rattle.wv_model.specs.PlainClass.{AreSame, IsPlainBody, IsPlainMethod}
 use Rattle.wv_model.specs.MemberTable.{meaning_of, read_in_target, body_in_target, overwritten, IsMember, replaced, unchanged, written_path, IsWritten}
 use Rattle.wv_pool.proofs.Behind.{some_is}
-use Rattle.wv_weave.specs.Overwrite.{IsTarget, IsOverwrite}
 use Rattle.wv_weave.specs.Writing.{IsClassBytes, IsOverwritten}
 use Rattle.wv_weave.proofs.WovenForm.{all_set}
 use Rattle.wv_weave.proofs.WovenLimits.{some_body, get_all}
@@ -148,9 +147,10 @@ module _ (mixin : ClassFile) (origin : Member) (there : Contains mixin.methods o
   table : (methods : List Member) (place : ℕ) (old : Member) → slice_get methods place ≡ Some old → AreSame old origin → AllPairs (λ first later. AreSame first later → ⊥) methods → AllZip (IsMember mixin) methods (set methods place (overwritten old origin))
   table [] place old at same distinct = cc
   table (method ∷ methods) zero old at same distinct =
-      let is : method ≡ old = some_is method old at in
-      (subst (λ (m : Member). IsMember mixin m (overwritten old origin)) (sym is) (replaced there same),
-      all_stay method methods methods (subst (λ (m : Member). AreSame m origin) (sym is) same) (others method methods distinct))
+      let is : method ≡ old = some_is method old at in (
+        subst (λ (m : Member). IsMember mixin m (overwritten old origin)) (sym is) (replaced there same),
+        all_stay method methods methods (subst (λ (m : Member). AreSame m origin) (sym is) same) (others method methods distinct),
+      )
   table (method ∷ methods) (suc place) old at same distinct =
       let found = get_is methods place old at in
       (stays method (λ h. others method methods distinct place old found.0 (subst (AreSame method) (sym found.1) (h.0 ∙ sym same.0, h.1 ∙ sym same.1))), table methods place old at same (behind method methods distinct))
@@ -188,9 +188,9 @@ module _ (game mixin woven : ClassFile) (bytes : List ℕ) (is : IsOverwritten g
         flags = ap (λ (c : ClassFile). c.flags) by.made;
         version = ap (λ (c : ClassFile). c.version) by.made;
         table = subst (λ (c : ClassFile). AllZip (IsMember mixin) game.methods c.methods) (sym by.made)
-        (table mixin is.origin is.of_mixin single game.methods is.place by.old by.at same is.is_game.plain.distinct);
+            (table mixin is.origin is.of_mixin single game.methods is.place by.old by.at same is.is_game.plain.distinct);
         verifies = subst (λ (c : ClassFile). AllByRecursion (IsPlainMethod Game) c.methods) (sym by.made)
-        (all_set (IsPlainMethod Game) game.methods is.place member is.is_game.plain.methods plain);
+            (all_set (IsPlainMethod Game) game.methods is.place member is.is_game.plain.methods plain);
         more = spelled.more;
         same_front = ap (λ (c : ClassFile). c.pool ++ spelled.more) by.made;
       }

@@ -1,5 +1,5 @@
 -- The constants whose numbers stand in a written class (JVM Specification chapter 4), and which of them are plain.
-use Rattle.std.specs.Prelude.{ℕ, ◌==◌, true, false, if◌then◌else◌, List, [], ◌∷◌, ◌++◌, codes, Option, Some, None}
+use Rattle.std.specs.Prelude.{ℕ, ◌==◌, false, if◌then◌else◌, List, [], ◌∷◌, ◌++◌, codes, Option, Some, None}
 use Rattle.std.specs.List.{flat_map}
 use Rattle.wv_base.specs.declared.class_file.Body.{Body}
 use Rattle.wv_base.specs.declared.class_file.ClassFile.{ClassFile}

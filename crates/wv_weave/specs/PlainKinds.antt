@@ -1,5 +1,5 @@
 -- Pools that hold plain constants alone (JVM Specification 4.4).
-use Rattle.std.specs.Prelude.{ℕ, ◌^◌, ◌<◌, List, Result, Ok, Err}
+use Rattle.std.specs.Prelude.{◌^◌, ◌<◌, List, Result, Ok, Err}
 use Rattle.wv_base.specs.declared.class_file.PoolEntry.{PoolEntry}
 use Rattle.wv_base.specs.declared.class_file.PoolEntry.TheVariants as entries
 use Rattle.wv_base.specs.declared.constant.Const.{Const}

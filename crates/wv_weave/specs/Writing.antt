@@ -1,6 +1,6 @@
 -- Which classes are written, what their bytes are, and where a limit of the class file format is passed (JVM
 -- Specification chapter 4).
-use Rattle.std.specs.Prelude.{◌≡◌, ℕ, ◌+◌, ◌^◌, ◌<◌, ◌≤◌, List, [], ◌∷◌, ◌++◌, length, Contains, FitsSigned, IsSomeAnd, Some, None}
+use Rattle.std.specs.Prelude.{◌≡◌, ℕ, ◌^◌, ◌<◌, List, [], ◌++◌, length, Contains, FitsSigned, IsSomeAnd, Some, None}
 use Rattle.std.specs.List.{AllByRecursion, AllZip, concat, sum_by}
 use Rattle.std.specs.Int.{w8}
 use Rattle.wv_base.specs.declared.class_file.Body.{Body}

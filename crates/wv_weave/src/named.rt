@@ -7,12 +7,7 @@ use std::alloc::Global;
 use wv_base::{Body, ClassFile, Const, Insn, Member, MemberReference, Memory, Name};
 
 /// The constant to which an instruction with this opcode refers.
-pub(crate) fn operand(
-    op: u8,
-    owner: &Name,
-    name: &Name,
-    descriptor: &Name,
-) -> Result<Const, Memory>
+pub(crate) fn operand(op: u8, owner: &Name, name: &Name, descriptor: &Name) -> Result<Const, Memory>
     ensures { IfOk result (λ constant. constant ≡ operand op (record { owner = owner.now; name = name.now; descriptor = descriptor.now })) }
 {
     let reference = MemberReference {

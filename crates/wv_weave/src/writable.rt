@@ -13,7 +13,9 @@ ghost use Rattle.wv_weave.specs.Writing.{IsWritableInsn, IsWritableBody, IsWrita
 
 use crate::named::class_constants;
 use std::alloc::Global;
-use wv_base::{Body, ClassFile, Const, Insn, LimitFault, Member, MemberReference, Memory, Name, PoolEntry};
+use wv_base::{
+    Body, ClassFile, Const, Insn, LimitFault, Member, MemberReference, Memory, Name, PoolEntry,
+};
 use wv_pool::{first_break, is_allowed};
 
 fn are_plain_units(units: &[u16]) -> bool
@@ -36,9 +38,7 @@ fn is_plain_text(text: &Name) -> bool
 fn has_plain_names(member: &MemberReference) -> bool
     ensures { IsTrue result ↔ (IsPlainText member.now.owner × IsPlainText member.now.name × IsPlainText member.now.descriptor) }
 {
-    is_plain_text(&member.owner)
-        && is_plain_text(&member.name)
-        && is_plain_text(&member.descriptor)
+    is_plain_text(&member.owner) && is_plain_text(&member.name) && is_plain_text(&member.descriptor)
 }
 
 fn has_plain_texts(constant: &Const) -> bool

@@ -1,4 +1,4 @@
-use Rattle.std.proofs.Common.{◌≡◌, [], ◌∷◌, ◌++◌, codes, take}
+use Rattle.std.proofs.Common.{◌≡◌, ◌∷◌, ◌++◌, codes, take}
 use Rattle.std.specs.List.{flat_map}
 use Rattle.wv_base.specs.declared.constant.Const.TheVariants as constants
 use Rattle.wv_weave.specs.ClassConstants.{insn_constants}
