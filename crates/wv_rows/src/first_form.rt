@@ -7,7 +7,7 @@ use std::test::Fail;
 use wv_base::{Bytes, Folder, Insn, Side, Text};
 use wv_top::{Status, loader};
 use wv_tree::{MemOutlet, MemSink, MemTree};
-use wv_weave::{WeaveFault, is_plain, read_class, weave, write_class};
+use wv_weave::{WeaveFault, is_plain, is_writable, read_class, weave, write_class};
 
 const GAME: &str = r#"{"id":"game","version":"1.0.0","main":"app/Main"}"#;
 
@@ -324,6 +324,7 @@ fn a_written_class_is_read_again(rt: HostRuntime) -> Result<(), Fail> {
     let alloc = rt.alloc();
     let bytes = main_class(alloc)?;
     let class = read_class(alloc, bytes.as_slice())?;
+    assert!(rt; is_writable(alloc, &class)?);
     let written = write_class(alloc, &class)?;
     assert!(rt; written.len() > 100 && bytes.len() > 100);
     assert_eq!(rt; &written.as_slice()[10..100], &bytes[10..100]);

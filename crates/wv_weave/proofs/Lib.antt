@@ -9,3 +9,14 @@ pub mod CodeReads
 pub mod CodeLists
 pub mod AttributeReads
 pub mod MethodReads
+pub mod PlainNames
+pub mod PlainPools
+pub mod PoolGrowth
+pub mod Spelling
+pub mod WrittenClass
+pub mod WovenForm
+pub mod WovenLimits
+pub mod KindPools
+pub mod PassedLimits
+pub mod WrittenTable
+pub mod ClassReads

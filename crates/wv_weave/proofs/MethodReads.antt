@@ -403,7 +403,7 @@ pub record IsMethodRead (role : Role) (pool : List PoolEntry) (bytes : List ℕ)
   pub plain : IsPlainMethod role method
   pub fits : IsBytes rest
 
-one_note : (class : List ℕ) (elements : List NamedElement) → IsInvisible (note class elements) class
+pub one_note : (class : List ℕ) (elements : List NamedElement) → IsInvisible (note class elements) class
 one_note class elements =
     record { invisible = refl; no_parameter = refl; of_class = ap (λ a. a.class) (out-roll-Annotation (record { class = class; elements = elements })) }
 

@@ -5,3 +5,6 @@ pub mod Outside
 pub mod Woven
 pub mod Role
 pub mod Reading
+pub mod ClassConstants
+pub mod PlainKinds
+pub mod Writing

@@ -1,7 +1,7 @@
 -- Reading a plain class from left to right (JVM Specification chapter 4): what is read and the bytes behind it, or
 -- nothing where it isn't plain. That this reads the bytes of plain classes and no others, `read_plain` says.
-use Rattle.std.specs.Prelude.{◌≡◌, ℕ, zero, suc, ◌==◌, nat_lt, nat_le, Bool, true, false, not, ◌&&◌, ◌||◌, if◌then◌else◌, List, [], ◌∷◌, ◌++◌, length, take, drop, codes, bytes_eq, IsTrue, Option, Some, None, Result, Ok, Err}
-use Rattle.std.specs.List.{list_all, list_any}
+use Rattle.std.specs.Prelude.{◌≡◌, ℕ, zero, suc, ◌==◌, nat_lt, nat_le, Bool, true, false, not, ◌&&◌, ◌||◌, if◌then◌else◌, List, [], ◌∷◌, ◌++◌, length, take, drop, codes, bytes_eq, Option, Some, None, Result, Ok, Err}
+use Rattle.std.specs.List.{list_any}
 use Rattle.std.specs.Int.{w8, w16, w32, from_be_bytes, cast_signed}
 use Rattle.wv_base.specs.declared.class_file.Body.{Body}
 use Rattle.wv_base.specs.declared.class_file.ClassFile.{ClassFile}
@@ -19,11 +19,11 @@ use Rattle.wv_base.specs.Names.{is_method_name}
 use Rattle.wv_base.specs.Opcodes.{iconst_0, iconst_5, bipush, pop, iadd, imul, return, getstatic, invokevirtual, invokestatic}
 use Rattle.wv_insn.specs.declared.raw.Raw.{Raw}
 use Rattle.wv_insn.specs.declared.raw.Raw.TheVariants as raws
+use Rattle.wv_model.specs.PlainPool.{pool_bytes, IsPlainPool}
 use Rattle.wv_model.specs.PlainCode.{Role, Game, Mixin, class_name}
 use Rattle.wv_pool.specs.Constants.{member}
 use Rattle.wv_pool.specs.Constants.{class_name as class_name_of}
-use Rattle.wv_pool.specs.Entries.{pool_bytes}
-use Rattle.wv_pool.specs.References.{entry_of, text_of, IsPool}
+use Rattle.wv_pool.specs.References.{entry_of, text_of}
 use Rattle.wv_weave.specs.Checking.{checks}
 use Rattle.wv_weave.specs.declared.fault.PlainFault.{PlainFault}
 use Rattle.wv_weave.specs.declared.fault.PlainFault.TheVariants as faults
@@ -82,19 +82,6 @@ field_in pool _ = None
 abbrev pub method_in : List PoolEntry → Option PoolEntry → Option MemberReference
 method_in pool (Some (entries.Method class pair)) = member pool class pair
 method_in pool _ = None
-
--- a text of ASCII characters but zero
-abbrev pub is_plain_text : List ℕ → Bool
-is_plain_text text = list_all (λ unit. nat_le 1 unit && nat_le unit 0x7F) text
-
--- an entry of a kind that a plain pool has
-abbrev pub is_plain_entry : PoolEntry → Bool
-is_plain_entry (entries.Utf8 text) = is_plain_text text
-is_plain_entry (entries.Class name) = true
-is_plain_entry (entries.Field class pair) = true
-is_plain_entry (entries.Method class pair) = true
-is_plain_entry (entries.NameAndType name descriptor) = true
-is_plain_entry _ = false
 
 -- an entry that is the class of this name
 abbrev pub names_class : List PoolEntry → List ℕ → PoolEntry → Bool
@@ -429,7 +416,7 @@ fits_role Mixin pool = true
 
 -- a plain pool at the front is found, with the bytes behind it, and where none is found there is none
 abbrev pub FindsPool : List ℕ → Result (List PoolEntry × List ℕ) PlainFault → Type 0
-FindsPool bytes (Ok found) = IsPool found.0 × (bytes ≡ pool_bytes found.0 ++ found.1) × IsTrue (list_all is_plain_entry found.0)
+FindsPool bytes (Ok found) = IsPlainPool found.0 × (bytes ≡ pool_bytes found.0 ++ found.1)
 FindsPool bytes (Err faults.NotPlain) =
-    (pool : List PoolEntry) (rest : List ℕ) → IsPool pool → IsTrue (list_all is_plain_entry pool) → bytes ≡ pool_bytes pool ++ rest → ⊥
+    (pool : List PoolEntry) (rest : List ℕ) → IsPlainPool pool → bytes ≡ pool_bytes pool ++ rest → ⊥
 FindsPool bytes (Err faults.Memory) = Unit {0}

@@ -1,12 +1,14 @@
 //! What the numbers of a plain class name.
-ghost use Rattle.std.specs.Prelude.{◌≡◌, IfOk, IsTrue};
+ghost use Rattle.std.specs.Prelude.{◌≡◌, IfOk};
 ghost use Rattle.std.specs.Option.{option_map, option_copied};
-ghost use Rattle.std.specs.List.{list_all, list_any};
+ghost use Rattle.std.specs.List.{list_any, AllByRecursion};
 ghost use Rattle.std.specs.Prelude.{bytes_eq};
 ghost use Rattle.wv_pool.specs.Constants.{member, class_name};
 ghost use Rattle.wv_pool.specs.References.{entry_of, text_of};
-ghost use Rattle.wv_weave.specs.Reading.{is_that, named_at, class_at, text_at, field_in, method_in, is_plain_text, is_plain_entry, names_class};
+ghost use Rattle.wv_weave.specs.Reading.{is_that, named_at, class_at, text_at, field_in, method_in, names_class};
+ghost use Rattle.wv_weave.specs.PlainKinds.{IsPlainKind};
 
+use crate::class_pool::copied;
 use crate::number::short;
 use std::alloc::Global;
 use wv_base::{Items, Memory, Name, PoolEntry};
@@ -101,32 +103,6 @@ pub(crate) fn method(pool: &Pool, number: u16) -> Option<Referred<'_>>
     }
 }
 
-fn is_plain_text(text: &[u16]) -> bool
-    ensures { result ≡ is_plain_text text.now }
-{
-    text.iter().all(|unit| 1 <= *unit && *unit <= 0x7f)
-}
-
-fn is_plain_entry(entry: &PoolEntry) -> bool
-    ensures { result ≡ is_plain_entry entry.now }
-{
-    match entry {
-        PoolEntry::Utf8(text) => is_plain_text(text.units()),
-        PoolEntry::Class { .. }
-        | PoolEntry::Field { .. }
-        | PoolEntry::Method { .. }
-        | PoolEntry::NameAndType { .. } => true,
-        _ => false,
-    }
-}
-
-/// Whether the entries are of the kinds that a plain pool has, with texts of ASCII characters.
-pub(crate) fn are_plain(entries: &[PoolEntry]) -> bool
-    ensures { result ≡ list_all is_plain_entry entries.now }
-{
-    entries.iter().all(is_plain_entry)
-}
-
 /// Whether an entry is the class of this name.
 fn names(pool: &Pool, entry: &PoolEntry, class: &str) -> bool
     ensures { result ≡ names_class pool.now class.now entry.now }
@@ -144,44 +120,14 @@ pub(crate) fn has_class(pool: &Pool, class: &str) -> bool
     pool.entries().iter().any(|entry| names(pool, entry, class))
 }
 
-/// A copy of an entry of a kind that a plain pool has.
-fn copy_entry(entry: &PoolEntry) -> Result<PoolEntry, Memory>
-    requires { IsTrue (is_plain_entry entry.now) }
-    ensures { IfOk result (λ copy. copy ≡ entry.now) }
-{
-    Ok(match entry {
-        PoolEntry::Utf8(text) => PoolEntry::Utf8(text.copy()?),
-        PoolEntry::Class { name } => PoolEntry::Class { name: *name },
-        PoolEntry::Field {
-            class,
-            name_and_type,
-        } => PoolEntry::Field {
-            class: *class,
-            name_and_type: *name_and_type,
-        },
-        PoolEntry::Method {
-            class,
-            name_and_type,
-        } => PoolEntry::Method {
-            class: *class,
-            name_and_type: *name_and_type,
-        },
-        PoolEntry::NameAndType { name, descriptor } => PoolEntry::NameAndType {
-            name: *name,
-            descriptor: *descriptor,
-        },
-        _ => unreachable!(),
-    })
-}
-
 /// A copy of the entries of a plain pool.
-pub(crate) fn copied(alloc: Global, entries: &[PoolEntry]) -> Result<Items<PoolEntry>, Memory>
-    requires { IsTrue (list_all is_plain_entry entries.now) }
+pub(crate) fn copied_items(alloc: Global, entries: &[PoolEntry]) -> Result<Items<PoolEntry>, Memory>
+    requires { AllByRecursion IsPlainKind entries.now }
     ensures { IfOk result (λ copies. copies ≡ entries.now) }
 {
     let mut copies = Items::new(alloc);
     for entry in entries {
-        copies.push(copy_entry(entry)?)?;
+        copies.push(copied(entry)?)?;
     }
     Ok(copies)
 }

@@ -2,6 +2,7 @@
 #![tactic(auto)]
 
 mod annotation;
+mod class_pool;
 mod class_read;
 mod code;
 mod constant;
@@ -9,19 +10,21 @@ mod fault;
 mod form;
 mod method;
 mod number;
+mod named;
 mod opcode;
 mod outside;
 mod overwrite;
 mod path;
 mod plain_class;
-mod pool_builder;
 mod role;
 mod typing;
 mod weaver;
+mod writable;
 mod write;
 
 pub use fault::WeaveFault;
 pub use path::is_read;
 pub use plain_class::{is_plain, read_class};
 pub use weaver::{Woven, weave};
-pub use write::write_class;
+pub use writable::{is_writable, plain_fits};
+pub use write::{limits_are_exact, write_class};

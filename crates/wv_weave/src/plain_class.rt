@@ -1,22 +1,24 @@
 //! Plain classes: the game class and the mixin of the form.
-ghost use Rattle.std.specs.Prelude.{◌≡◌, MatchOption, MatchBool, IfOk, IfErr, IsTrue, AllPairs};
+ghost use Rattle.std.specs.Prelude.{◌≡◌, MatchOption, MatchBool, IfOk, IfErr, AllPairs};
 ghost use Rattle.std.specs.Option.{option_map, option_copied};
 ghost use Rattle.std.specs.Result.{result_map_both};
-ghost use Rattle.std.specs.List.{list_all};
+ghost use Rattle.std.specs.List.{AllByRecursion};
 ghost use Rattle.wv_base.specs.declared.class_file.ClassFile.{ClassFile};
 ghost use Rattle.wv_model.specs.PlainClass.{HasMagic, IsMagicFault, IsPlainClass, IsPlainAs, IsPlain, AreSame};
 ghost use Rattle.wv_weave.specs.Checking.{Tells};
 ghost use Rattle.wv_weave.specs.ClassRead.{IsClassOf, IsPlainOrOther, Finds, IsReadFault};
 ghost use Rattle.wv_weave.specs.Role.{role_of};
-ghost use Rattle.wv_weave.specs.Reading.{Gives, FindsPool, is_count, end_of, supers_at, count_at, methods_of, is_plain_entry, class_with, fits_role};
+ghost use Rattle.wv_weave.specs.Reading.{Gives, FindsPool, is_count, end_of, supers_at, count_at, methods_of, class_with, fits_role};
+ghost use Rattle.wv_weave.specs.PlainKinds.{IsPlainKind};
 
 use crate::annotation::{class_notes, mixin};
-use crate::constant::{are_plain, class, copied, has_class};
+use crate::constant::{class, copied_items, has_class};
 use crate::fault::PlainFault;
 use crate::form::MIXIN_CLASS;
 use crate::method::{TABLE, attribute, methods};
 use crate::number::{expect, plain, short};
 use crate::role::Role;
+use crate::writable::are_plain_kinds;
 use bitflags::Flags;
 use std::alloc::Global;
 use std::collections::BTreeSet;
@@ -129,7 +131,7 @@ fn class_with(
     pool: &Pool,
     methods: Items<Member>,
 ) -> Result<ClassFile, Memory>
-    requires { IsTrue (list_all is_plain_entry pool.now) }
+    requires { AllByRecursion IsPlainKind pool.now }
     ensures { IfOk result (λ class. class ≡ class_with (role_of role) pool.now methods) }
 {
     Ok(ClassFile {
@@ -144,7 +146,7 @@ fn class_with(
         fields: Items::new(alloc),
         methods,
         notes: class_notes(alloc, role)?,
-        pool: copied(alloc, pool.entries())?,
+        pool: copied_items(alloc, pool.entries())?,
         kept: Items::new(alloc),
     })
 }
@@ -158,7 +160,7 @@ fn pool(alloc: Global, bytes: &[u8]) -> Result<(Pool, &[u8]), PlainFault>
         Err(ClassFault::Memory) => return Err(PlainFault::Memory),
         Err(_) => return Err(PlainFault::NotPlain),
     };
-    plain(are_plain(pool.entries()))?;
+    plain(are_plain_kinds(pool.entries()))?;
     Ok((pool, &bytes[length..]))
 }
 

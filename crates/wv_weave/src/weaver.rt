@@ -11,6 +11,7 @@ use crate::form::{GAME_CLASS_PATH, MIXIN_CLASS_PATH, WRITTEN_PATH};
 use crate::outside::first_outside;
 use crate::overwrite::{overwrite, target_of};
 use crate::role::Role;
+use crate::writable::is_writable;
 use crate::write::write_class;
 use std::alloc::Global;
 use wv_base::{
@@ -96,6 +97,9 @@ fn overwrite_missing(alloc: Global, method: &Member) -> Result<WeaveFault, Memor
 }
 
 fn written(alloc: Global, class: &ClassFile) -> Result<Bytes, WeaveFault> {
+    if !is_writable(alloc, class)? {
+        return Err(refused_form(alloc, GAME_CLASS_PATH)?);
+    }
     match write_class(alloc, class) {
         Ok(bytes) => Ok(bytes),
         // A plain class and the pool entries of one method keep far within every limit.

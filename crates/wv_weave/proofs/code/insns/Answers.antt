@@ -1,7 +1,7 @@
 use Rattle.std.proofs.Common.{◌≡◌, ◌≤◌, length, Some, None, Err, ap, sym, ◌∙◌, arith, rules}
 use Rattle.wv_weave.specs.Role.{role_of}
 use Rattle.wv_weave.proofs.CodeLoops.{goes_on, last_at, early_at, fails_at, ends_at}
-use Rattle.wv_weave.proofs.MethodReads as reads
+use Rattle.wv_weave.proofs.ClassReads as reads
 use Rattle.wv_weave.proofs.code.insns.Goals as goal
 
 pub returns-in_err-insn : goal.returns-in_err-insn
