@@ -20,3 +20,6 @@ pub mod KindPools
 pub mod PassedLimits
 pub mod WrittenTable
 pub mod ClassReads
+pub mod MethodLoops
+pub mod PoolFinds
+pub mod MethodKeys

@@ -9,6 +9,8 @@ use Rattle.wv_base.specs.declared.class_file.Member.{Member}
 use Rattle.wv_base.specs.declared.class_file.PoolEntry.{PoolEntry}
 use Rattle.wv_base.specs.declared.class_file.PoolEntry.TheVariants as entries
 use Rattle.wv_base.specs.declared.constant.MemberReference.{MemberReference}
+use Rattle.wv_base.specs.declared.fault.ClassFault.{ClassFault}
+use Rattle.wv_base.specs.declared.fault.ClassFault.TheVariants as class_faults
 use Rattle.wv_base.specs.declared.insn.Insn.{Insn}
 use Rattle.wv_base.specs.declared.insn.Insn.TheVariants as insns
 use Rattle.wv_base.specs.declared.note.Annotation.{Annotation, roll-Annotation}
@@ -413,6 +415,12 @@ class_with role pool methods =
 abbrev pub fits_role : Role → List PoolEntry → Bool
 fits_role Game pool = not (list_any (names_class pool (codes "alpha/mixin/MainMixin")) pool)
 fits_role Mixin pool = true
+
+-- where the bytes start with no pool, they are those of no plain class
+abbrev pub plain_fault : ClassFault → PlainFault
+plain_fault class_faults.Memory = faults.Memory
+plain_fault (class_faults.Layout at) = faults.NotPlain
+plain_fault (class_faults.Reference at) = faults.NotPlain
 
 -- a plain pool at the front is found, with the bytes behind it, and where none is found there is none
 abbrev pub FindsPool : List ℕ → Result (List PoolEntry × List ℕ) PlainFault → Type 0

@@ -8,7 +8,7 @@ ghost use Rattle.wv_model.specs.PlainClass.{HasMagic, IsMagicFault, IsPlainClass
 ghost use Rattle.wv_weave.specs.Checking.{Tells};
 ghost use Rattle.wv_weave.specs.ClassRead.{IsClassOf, IsPlainOrOther, Finds, IsReadFault};
 ghost use Rattle.wv_weave.specs.Role.{role_of};
-ghost use Rattle.wv_weave.specs.Reading.{Gives, FindsPool, is_count, end_of, supers_at, count_at, methods_of, class_with, fits_role};
+ghost use Rattle.wv_weave.specs.Reading.{Gives, plain_fault, FindsPool, is_count, end_of, supers_at, count_at, methods_of, class_with, fits_role};
 ghost use Rattle.wv_weave.specs.PlainKinds.{IsPlainKind};
 
 use crate::annotation::{class_notes, mixin};
@@ -16,7 +16,7 @@ use crate::constant::{class, copied_items, has_class};
 use crate::fault::PlainFault;
 use crate::form::MIXIN_CLASS;
 use crate::method::{TABLE, attribute, methods};
-use crate::number::{expect, plain, short};
+use crate::number::{expect, plain, short, split};
 use crate::role::Role;
 use crate::writable::are_plain_kinds;
 use bitflags::Flags;
@@ -151,17 +151,30 @@ fn class_with(
     })
 }
 
+/// Bytes that start with no pool are those of no plain class.
+fn plain_fault(fault: ClassFault) -> PlainFault
+    ensures { result ≡ plain_fault fault }
+{
+    match fault {
+        ClassFault::Layout { .. } | ClassFault::Reference { .. } => PlainFault::NotPlain,
+        ClassFault::Memory => PlainFault::Memory,
+    }
+}
+
 /// The pool of a plain class, and the bytes behind it.
 fn pool(alloc: Global, bytes: &[u8]) -> Result<(Pool, &[u8]), PlainFault>
     ensures { FindsPool bytes.now (result_map_both (λ x. (x.0, x.1.now)) (λ e. e) result) }
 {
-    let (pool, length) = match read_pool(alloc, bytes) {
-        Ok(read) => read,
-        Err(ClassFault::Memory) => return Err(PlainFault::Memory),
-        Err(_) => return Err(PlainFault::NotPlain),
-    };
-    plain(are_plain_kinds(pool.entries()))?;
-    Ok((pool, &bytes[length..]))
+    match read_pool(alloc, bytes) {
+        Ok((pool, length)) => {
+            plain(are_plain_kinds(pool.entries()))?;
+            match split(length, bytes) {
+                Some((_, rest)) => Ok((pool, rest)),
+                None => Err(PlainFault::NotPlain),
+            }
+        }
+        Err(fault) => Err(plain_fault(fault)),
+    }
 }
 
 /// Whether a class of the role may have this pool: the game's class doesn't name the mixin.
