@@ -129,13 +129,13 @@ any_at test (y ∷ xs) (suc place) x e passes = or_true (test y) (list_any test 
     or_true true b is = refl
     or_true false b is = is
 
-record Found {X : Type 0} (test : X → Bool) (xs : List X) : Type 0 where
+pub record Found {X : Type 0} (test : X → Bool) (xs : List X) : Type 0 where
   pub place : ℕ
   pub item : X
   pub at : slice_get xs place ≡ Some item
   pub passes : test item ≡ true
 
-found : {X : Type 0} (test : X → Bool) (xs : List X) → list_any test xs ≡ true → Found test xs
+pub found : {X : Type 0} (test : X → Bool) (xs : List X) → list_any test xs ≡ true → Found test xs
 found test [] e = absurd cc
 found test (y ∷ xs) e =
     elim (either (test y) (list_any test xs) e) [
