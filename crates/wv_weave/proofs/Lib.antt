@@ -23,3 +23,4 @@ pub mod ClassReads
 pub mod MethodLoops
 pub mod PoolFinds
 pub mod MethodKeys
+pub mod PlainReads

@@ -1,7 +1,7 @@
 -- Reading a plain class from left to right (JVM Specification chapter 4): what is read and the bytes behind it, or
 -- nothing where it isn't plain. That this reads the bytes of plain classes and no others, `read_plain` says.
-use Rattle.std.specs.Prelude.{◌≡◌, ℕ, zero, suc, ◌==◌, nat_lt, nat_le, Bool, true, false, not, ◌&&◌, ◌||◌, if◌then◌else◌, List, [], ◌∷◌, ◌++◌, length, take, drop, codes, bytes_eq, Option, Some, None, Result, Ok, Err}
-use Rattle.std.specs.List.{list_any}
+use Rattle.std.specs.Prelude.{◌≡◌, ℕ, zero, suc, ◌==◌, nat_eq, nat_lt, nat_le, Bool, true, false, not, ◌&&◌, ◌||◌, if◌then◌else◌, List, [], ◌∷◌, ◌++◌, length, take, drop, codes, bytes_eq, Option, Some, None, Result, Ok, Err}
+use Rattle.std.specs.List.{list_any, starts_with}
 use Rattle.std.specs.Int.{w8, w16, w32, from_be_bytes, cast_signed}
 use Rattle.wv_base.specs.declared.class_file.Body.{Body}
 use Rattle.wv_base.specs.declared.class_file.ClassFile.{ClassFile}
@@ -415,6 +415,12 @@ class_with role pool methods =
 abbrev pub fits_role : Role → List PoolEntry → Bool
 fits_role Game pool = not (list_any (names_class pool (codes "alpha/mixin/MainMixin")) pool)
 fits_role Mixin pool = true
+
+-- few enough bytes, which begin with the magic number and the version 52.0
+abbrev pub has_head : List ℕ → Bool
+has_head bytes =
+    nat_le (length bytes) 4096
+    && starts_with nat_eq bytes (0xCA ∷ 0xFE ∷ 0xBA ∷ 0xBE ∷ 0 ∷ 0 ∷ 0 ∷ 52 ∷ [])
 
 -- where the bytes start with no pool, they are those of no plain class
 abbrev pub plain_fault : ClassFault → PlainFault

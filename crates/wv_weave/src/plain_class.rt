@@ -8,7 +8,7 @@ ghost use Rattle.wv_model.specs.PlainClass.{HasMagic, IsMagicFault, IsPlainClass
 ghost use Rattle.wv_weave.specs.Checking.{Tells};
 ghost use Rattle.wv_weave.specs.ClassRead.{IsClassOf, IsPlainOrOther, Finds, IsReadFault};
 ghost use Rattle.wv_weave.specs.Role.{role_of};
-ghost use Rattle.wv_weave.specs.Reading.{Gives, plain_fault, FindsPool, is_count, end_of, supers_at, count_at, methods_of, class_with, fits_role};
+ghost use Rattle.wv_weave.specs.Reading.{Gives, has_head, plain_fault, FindsPool, is_count, end_of, supers_at, count_at, methods_of, class_with, fits_role};
 ghost use Rattle.wv_weave.specs.PlainKinds.{IsPlainKind};
 
 use crate::annotation::{class_notes, mixin};
@@ -184,6 +184,13 @@ fn fits_role(pool: &Pool, role: Role) -> bool
     role == Role::Mixin || !has_class(pool, MIXIN_CLASS)
 }
 
+/// Whether the bytes are few enough, and begin with the magic number and the version.
+fn has_head(bytes: &[u8]) -> bool
+    ensures { result ≡ has_head bytes.now }
+{
+    bytes.len() <= MOST_BYTES && bytes.starts_with(&HEAD)
+}
+
 /// Reads a plain class of the role, all of the bytes.
 pub(crate) fn read_plain(
     alloc: Global,
@@ -192,7 +199,7 @@ pub(crate) fn read_plain(
 ) -> Result<ClassFile, PlainFault>
     ensures { Finds (role_of role) bytes.now result }
 {
-    plain(bytes.len() <= MOST_BYTES && bytes.starts_with(&HEAD))?;
+    plain(has_head(bytes))?;
     let (pool, rest) = pool(alloc, &bytes[8..])?;
     plain(fits_role(&pool, role))?;
     let methods = methods_of(alloc, &pool, role, rest)?;
