@@ -11,3 +11,4 @@ pub mod WovenLimits
 pub mod KindPools
 pub mod PassedLimits
 pub mod WrittenTable
+pub mod MergedClasses

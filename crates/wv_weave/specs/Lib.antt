@@ -6,3 +6,4 @@ pub mod Woven
 pub mod ClassConstants
 pub mod PlainKinds
 pub mod Writing
+pub mod Merging
