@@ -24,3 +24,4 @@ pub mod MethodLoops
 pub mod PoolFinds
 pub mod MethodKeys
 pub mod PlainReads
+pub mod MergedClasses

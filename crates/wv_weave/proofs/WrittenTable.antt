@@ -130,7 +130,7 @@ others method methods distinct i d within = distinct 0 (suc i) d (omega arith) (
 behind : (method : Member) (methods : List Member) → AllPairs (λ first later. AreSame first later → ⊥) (method ∷ methods) → AllPairs (λ first later. AreSame first later → ⊥) methods
 behind method methods distinct i j d less within = distinct (suc i) (suc j) d (omega arith) (omega arith)
 
-get_is : (methods : List Member) (i : ℕ) (method : Member) → slice_get methods i ≡ Some method → (i < length methods) × (get_or methods i method ≡ method)
+pub get_is : (methods : List Member) (i : ℕ) (method : Member) → slice_get methods i ≡ Some method → (i < length methods) × (get_or methods i method ≡ method)
 get_is [] i method e = cc
 get_is (m ∷ methods) zero method e = (omega arith, some_is m method e)
 get_is (m ∷ methods) (suc i) method e = let r = get_is methods i method e in (omega (arith, r.0), r.1)

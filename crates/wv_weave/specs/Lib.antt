@@ -8,3 +8,4 @@ pub mod Reading
 pub mod ClassConstants
 pub mod PlainKinds
 pub mod Writing
+pub mod Merging

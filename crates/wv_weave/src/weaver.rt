@@ -1,9 +1,13 @@
 //! The weaver: the first broken rule of a folder, or the files that it is woven to.
-ghost use Rattle.std.specs.Prelude.{◌≡◌, ℕ, List, [], ◌∷◌, IfOk};
+ghost use Rattle.std.specs.Prelude.{◌≡◌, ◌++◌, ℕ, List, [], ◌∷◌, IfOk, IfErr};
 ghost use Rattle.wv_model.specs.MemberTable.{written_path};
-ghost use Rattle.wv_model.specs.FirstForm.{out_of_form};
+ghost use Rattle.wv_model.specs.PlainCode.{Game, Mixin};
+ghost use Rattle.wv_model.specs.PlainClass.{IsPlainClass};
+ghost use Rattle.wv_model.specs.FirstForm.{out_of_form, shown_method, overwrite_missing};
+ghost use Rattle.wv_weave.specs.Merging.{Fits, HasPlainNames, Merges};
 ghost use Rattle.wv_weave.specs.Outside.{IsMisplaced, RefusesForm};
 ghost use Rattle.wv_weave.specs.Woven.{IsOneEdit};
+ghost use Rattle.wv_weave.specs.Writing.{IsClassBytes};
 
 use crate::class_read::{ClassRead, read_at};
 use crate::fault::WeaveFault;
@@ -44,7 +48,9 @@ fn broken(
     member: Option<Text>,
     wanted: Text,
     found: Text,
-) -> Result<WeaveFault, Memory> {
+) -> Result<WeaveFault, Memory>
+    ensures { IfOk result (λ fault. fault ≡ WeaveFault.Broken (record { rule = rule; place = record { file = path.now; member = member; index = None }; wanted = wanted; found = found })) }
+{
     Ok(WeaveFault::Broken(Broken {
         rule,
         place: Place {
@@ -72,17 +78,27 @@ fn class_bad(alloc: Global, path: &str, at: usize) -> Result<WeaveFault, Memory>
     broken(alloc, Rule::ClassBad, path, None, wanted, found)
 }
 
+fn joined(alloc: Global, front: &str, name: &str, descriptor: &str) -> Result<Text, Memory>
+    ensures { IfOk result (λ text. text ≡ front.now ++ (name.now ++ descriptor.now)) }
+{
+    Ok(Text::from_string(format!(in alloc; "{front}{name}{descriptor}")?))
+}
+
 /// A method as a place shows it: its name and its descriptor.
-fn member_text(alloc: Global, front: &str, method: &Member) -> Result<Text, Memory> {
+fn member_text(alloc: Global, front: &str, method: &Member) -> Result<Text, Memory>
+    ensures { HasPlainNames method.now → IfOk result (λ text. text ≡ front.now ++ shown_method method.now) }
+{
     let name = shown(alloc, &method.name)?;
     let descriptor = shown(alloc, &method.descriptor)?;
     let name = name.as_str();
     let descriptor = descriptor.as_str();
-    Ok(Text::from_string(format!(in alloc; "{front}{name}{descriptor}")?))
+    joined(alloc, front, name, descriptor)
 }
 
 /// The refusal of an overwrite whose method the target lacks.
-fn overwrite_missing(alloc: Global, method: &Member) -> Result<WeaveFault, Memory> {
+fn overwrite_missing(alloc: Global, method: &Member) -> Result<WeaveFault, Memory>
+    ensures { HasPlainNames method.now → IfOk result (λ fault. fault ≡ WeaveFault.Broken (overwrite_missing method.now)) }
+{
     let member = member_text(alloc, "", method)?;
     let wanted = member_text(alloc, "app/Main.", method)?;
     let found = text(alloc, "-")?;
@@ -96,13 +112,17 @@ fn overwrite_missing(alloc: Global, method: &Member) -> Result<WeaveFault, Memor
     )
 }
 
-fn written(alloc: Global, class: &ClassFile) -> Result<Bytes, WeaveFault> {
+/// The bytes of a class that can be written.
+fn written(alloc: Global, class: &ClassFile) -> Result<Bytes, WeaveFault>
+    ensures spelled { IfOk result (IsClassBytes class.now) }
+    ensures fits { Fits class.now → IfErr result (λ fault. fault ≡ WeaveFault.Memory) }
+{
     if !is_writable(alloc, class)? {
         return Err(refused_form(alloc, GAME_CLASS_PATH)?);
     }
     match write_class(alloc, class) {
         Ok(bytes) => Ok(bytes),
-        // A plain class and the pool entries of one method keep far within every limit.
+        // A plain class and one plain method more keep within every limit.
         Err(LimitFault::PoolLarge | LimitFault::CodeLarge | LimitFault::BranchFar) => {
             Err(refused_form(alloc, GAME_CLASS_PATH)?)
         }
@@ -121,7 +141,8 @@ fn one_file(alloc: Global, bytes: Bytes) -> Result<Folder, Memory>
 
 /// Applies the mixin to the game class.
 fn merge(alloc: Global, mut game: ClassFile, mixin: &ClassFile) -> Result<Woven, WeaveFault>
-    ensures { IfOk result IsOneEdit }
+    ensures one_edit { IfOk result IsOneEdit }
+    ensures plain { (content other : List ℕ) → IsPlainClass Game content game → IsPlainClass Mixin other mixin.now → Merges game mixin.now result }
 {
     for method in mixin.methods.as_slice() {
         let Some(place) = target_of(&game, method) else {
