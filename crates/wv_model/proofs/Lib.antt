@@ -11,3 +11,6 @@ pub mod Limit
 pub mod FirstFormExamples
 pub mod SmallClass
 pub mod FirstPlace
+pub mod FormFrames
+pub mod HookedTable
+pub mod FirstMeaning

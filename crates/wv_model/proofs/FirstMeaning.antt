@@ -1,0 +1,72 @@
+-- The written class of the first form corresponds to the game class under its mixin.
+use Rattle.std.proofs.Common.{◌≡◌, ℕ, ◌<◌, List, [], ◌∷◌, length, refl, sym, ap, subst, inl, arith}
+use Rattle.wv_base.specs.declared.class_file.ClassFile.{ClassFile}
+use Rattle.wv_base.specs.declared.class_file.Member.{Member}
+use Rattle.wv_base.specs.Folder.{File}
+use Rattle.wv_model.specs.PlainClass.{MeetsRole}
+use Rattle.wv_model.specs.PlainCode.{Mixin}
+use Rattle.wv_model.specs.Simulates.{SimulatesWithin}
+use Rattle.wv_model.specs.Corresponds.{Corresponds, steps_for_one}
+use Rattle.wv_model.specs.FrameLaws.{FrameLaws}
+use Rattle.wv_model.specs.FrameRelation.{one_shared}
+use Rattle.wv_model.specs.Lifted.{none_below, running}
+use Rattle.wv_model.specs.FirstMeaning.{MeansHooked, MeansFolder, AreSpelled, FormRel, at_same_point, form_relation}
+use Rattle.wv_model.specs.Entries.{Entry, entry_arguments, entry_method, entry_shared}
+use Rattle.wv_model.specs.FormDomain.{Start, Answer, form_rules}
+use Rattle.wv_model.specs.HookMachine.{Entering, hook_control, hook_machine, hook_start, script_of, hooked, hooked_shape}
+use Rattle.wv_model.specs.Linking.{ClassShape}
+use Rattle.wv_model.specs.MemberTable.{IsTable, IsWritten, IsWoven}
+use Rattle.wv_model.specs.PlainMachine.{body_of, frame_at, plain, plain_control, plain_machine, plain_start, shape_of}
+use Rattle.wv_model.proofs.FormFrames.{form_laws}
+use Rattle.wv_model.proofs.HookedTable.{same_body, same_shape}
+use Rattle.wv_model.proofs.Lift.{lifts, starts_correspond}
+
+-- the laws on single frames, for the written class and the game class under the mixin
+pub written_laws : (game mixin written : ClassFile) (one : Member) → mixin.methods ≡ one ∷ [] → written.name ≡ game.name → IsTable game mixin written.methods → FrameLaws steps_for_one form_rules (plain_control (written ∷ [])) (hook_control game mixin) form_relation
+written_laws game mixin written one single name table =
+    subst (λ shape. FrameLaws steps_for_one form_rules (plain (shape ∷ []) (body_of (written ∷ []))) (hook_control game mixin) form_relation) (sym (same_shape game mixin written one single table name)) (form_laws (hooked_shape game mixin ∷ []) (body_of (written ∷ [])) (script_of game mixin) (same_body game mixin written one single table) steps_for_one (omega arith))
+
+pub corresponds : (game mixin written : ClassFile) (one : Member) → mixin.methods ≡ one ∷ [] → written.name ≡ game.name → IsTable game mixin written.methods → MeansHooked game mixin (written ∷ [])
+corresponds game mixin written one single name table entry most answers =
+    let laws = written_laws game mixin written one single name table in
+    let shared = entry_shared entry most answers in
+    let method = Start (entry_method entry) in
+    starts_correspond steps_for_one form_rules (plain_control (written ∷ [])) (hook_control game mixin) form_relation laws (omega arith) shared method 0 (frame_at method 0 [] (entry_arguments entry)) (frame_at method Entering [] (entry_arguments entry)) shared shared one_shared at_same_point
+
+-- a mixin of the form has one method
+one_method : (methods : List Member) → length methods ≡ 1 → (one : Member) × (methods ≡ one ∷ [])
+one_method [] e = absurd (omega (arith, e))
+one_method (one ∷ []) e = (one, refl)
+one_method (one ∷ (two ∷ rest)) e = absurd (omega (arith, e))
+
+pub role_corresponds : (game mixin written : ClassFile) → MeetsRole Mixin mixin → written.name ≡ game.name → IsTable game mixin written.methods → MeansHooked game mixin (written ∷ [])
+role_corresponds game mixin written of_role name table =
+    let (one, single) = one_method mixin.methods of_role in
+    corresponds game mixin written one single name table
+
+pub role_steps : (game mixin written : ClassFile) → MeetsRole Mixin mixin → written.name ≡ game.name → IsTable game mixin written.methods → SimulatesWithin steps_for_one (plain_machine (written ∷ [])) (hook_machine game mixin) FormRel
+role_steps game mixin written of_role name table =
+    let (one, single) = one_method mixin.methods of_role in
+    lifts steps_for_one form_rules (plain_control (written ∷ [])) (hook_control game mixin) form_relation (written_laws game mixin written one single name table) (omega arith)
+
+pub start_related : (entry : Entry) (most : ℕ) (answers : List Answer) → FormRel 0 (plain_start entry most answers) (hook_start entry most answers)
+start_related entry most answers =
+    let shared = entry_shared entry most answers in
+    record { same_trace = refl; either = inl (record { first_goes = refl; second_goes = refl; world = shared; alike = one_shared; frames = running at_same_point none_below }) }
+
+pub written_corresponds : (game mixin : ClassFile) (files : List File) → MeetsRole Mixin mixin → (written : IsWritten game mixin files) → MeansHooked game mixin (written.class ∷ [])
+written_corresponds game mixin files of_role written =
+    role_corresponds game mixin written.class of_role written.name written.table
+
+pub woven_corresponds : (folder files : List File) → IsWoven folder files → MeansFolder folder files
+woven_corresponds folder files woven =
+    let written = woven.written in
+    record {
+      game = woven.game;
+      has_game = woven.has_game;
+      mixin = woven.mixin;
+      has_mixin = woven.has_mixin;
+      classes = written.class ∷ [];
+      spelled = subst (λ list. AreSpelled list (written.class ∷ [])) (sym written.one_file) (written.spelled, tt);
+      means = written_corresponds woven.game woven.mixin files woven.has_mixin.2.plain.of_role written;
+    }

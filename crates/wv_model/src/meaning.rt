@@ -1,0 +1,55 @@
+//! What the written class of the first form means: it does what the game class does under its mixin. Nothing runs this.
+
+ghost use Rattle.std.specs.Prelude.{◌≡◌, ℕ, List, [], ◌∷◌, None, codes, pos, negsuc};
+ghost use Rattle.wv_base.specs.Folder.{File};
+ghost use Rattle.wv_base.specs.declared.class_file.ClassFile.{ClassFile};
+ghost use Rattle.wv_model.specs.Corresponds.{steps_for_one};
+ghost use Rattle.wv_model.specs.Entries.{Entry, Program};
+ghost use Rattle.wv_model.specs.FirstMeaning.{FormRel, MeansFolder, MeansHooked};
+ghost use Rattle.wv_model.specs.FormDomain.{Answer, Byte, Deep, Piece, Returned, Unlinked};
+ghost use Rattle.wv_model.specs.HookMachine.{hook_machine, hook_start, run_hooked};
+ghost use Rattle.wv_model.specs.Machine.{Budget, Ended, Run};
+ghost use Rattle.wv_model.specs.MeaningExamples.{calling_game, calling_method, entry_f, mixin_with, printing_method, written_with};
+ghost use Rattle.wv_model.specs.MemberTable.{IsTable, IsWoven, IsWritten};
+ghost use Rattle.wv_model.specs.PlainClass.{MeetsRole};
+ghost use Rattle.wv_model.specs.PlainCode.{Mixin};
+ghost use Rattle.wv_model.specs.PlainMachine.{plain_machine, plain_start, run_plain};
+ghost use Rattle.wv_model.specs.FirstFormExamples.{small_class};
+ghost use Rattle.wv_model.specs.Simulates.{SimulatesWithin};
+
+/// The written class does what the game class does under its mixin, for every entry, bound on cells, list of answers
+/// and budget: whatever class has the game's name and the members of its table; so the files that are written; so the
+/// files that a folder is woven to.
+pub fn first_form_corresponds()
+    ensures table { (game mixin written : ClassFile) → MeetsRole Mixin mixin → written.name ≡ game.name → IsTable game mixin written.methods → MeansHooked game mixin (written ∷ []) }
+    ensures written { (game mixin : ClassFile) (files : List File) → MeetsRole Mixin mixin → (written : IsWritten game mixin files) → MeansHooked game mixin (written.class ∷ []) }
+    ensures woven { (folder files : List File) → IsWoven folder files → MeansFolder folder files }
+{}
+
+/// The step law of the form: the start states of each entry are related, and from related states each step of the
+/// written class stands for one of the hook machine. The number stays below 800; in this form it is 0.
+pub fn first_form_steps()
+    ensures starts { (game mixin written : ClassFile) (entry : Entry) (most : ℕ) (answers : List Answer) → FormRel 0 (plain_start entry most answers) (hook_start entry most answers) }
+    ensures steps { (game mixin written : ClassFile) → MeetsRole Mixin mixin → written.name ≡ game.name → IsTable game mixin written.methods → SimulatesWithin steps_for_one (plain_machine (written ∷ [])) (hook_machine game mixin) FormRel }
+{}
+
+/// What both machines do on small classes: main calls the method that prints 7, in nine steps; a call of that method
+/// takes seven; fewer steps are too few; a method that calls itself ends deep at the step that would push the 1,025th
+/// frame; a class without main is unlinked.
+pub fn meaning_examples()
+    ensures prints { run_plain (written_with printing_method ∷ []) Program 1 [] 9 ≡ record { trace = Byte 0x37 ∷ Byte 0x0A ∷ []; finish = Ended Returned } }
+    ensures hooked_prints { run_hooked calling_game (mixin_with printing_method) Program 1 [] 9 ≡ record { trace = Byte 0x37 ∷ Byte 0x0A ∷ []; finish = Ended Returned } }
+    ensures no_step { run_plain (written_with printing_method ∷ []) Program 1 [] 0 ≡ record { trace = []; finish = Budget } }
+    ensures hooked_no_step { run_hooked calling_game (mixin_with printing_method) Program 1 [] 0 ≡ record { trace = []; finish = Budget } }
+    ensures one_step { run_plain (written_with printing_method ∷ []) Program 1 [] 1 ≡ record { trace = []; finish = Budget } }
+    ensures hooked_one_step { run_hooked calling_game (mixin_with printing_method) Program 1 [] 1 ≡ record { trace = []; finish = Budget } }
+    ensures cut { run_plain (written_with printing_method ∷ []) Program 1 [] 8 ≡ record { trace = Byte 0x37 ∷ Byte 0x0A ∷ []; finish = Budget } }
+    ensures hooked_cut { run_hooked calling_game (mixin_with printing_method) Program 1 [] 8 ≡ record { trace = Byte 0x37 ∷ Byte 0x0A ∷ []; finish = Budget } }
+    ensures called { run_plain (written_with printing_method ∷ []) entry_f 1 [] 7 ≡ record { trace = Byte 0x37 ∷ Byte 0x0A ∷ []; finish = Ended Returned } }
+    ensures hooked_called { run_hooked calling_game (mixin_with printing_method) entry_f 1 [] 7 ≡ record { trace = Byte 0x37 ∷ Byte 0x0A ∷ []; finish = Ended Returned } }
+    ensures deep { run_plain (written_with calling_method ∷ []) Program 1 [] 1025 ≡ record { trace = []; finish = Ended Deep } }
+    ensures hooked_deep { run_hooked calling_game (mixin_with calling_method) Program 1 [] 1025 ≡ record { trace = []; finish = Ended Deep } }
+    ensures nearly_deep { run_plain (written_with calling_method ∷ []) Program 1 [] 1024 ≡ record { trace = []; finish = Budget } }
+    ensures no_main { run_plain (small_class ∷ []) Program 1 [] 1 ≡ record { trace = []; finish = Ended (Unlinked (codes "app/Main")) } }
+    ensures hooked_no_main { run_hooked small_class (mixin_with printing_method) Program 1 [] 1 ≡ record { trace = []; finish = Ended (Unlinked (codes "app/Main")) } }
+{}
