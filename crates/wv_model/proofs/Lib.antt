@@ -14,3 +14,4 @@ pub mod FirstPlace
 pub mod FormFrames
 pub mod HookedTable
 pub mod FirstMeaning
+pub mod MeaningExamples

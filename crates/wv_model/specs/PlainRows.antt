@@ -27,7 +27,7 @@ combined operation (Int right ∷ Int left ∷ stack) shared = Next (Int (operat
 combined operation _ shared = Stuck
 
 -- the instructions without operands: constants, drops, sums and products in 32 bits, and the return without a value
-unfoldable pub plain_effect : ℕ → List Value → Shared → Effect form
+abbrev pub plain_effect : ℕ → List Value → Shared → Effect form
 plain_effect op stack shared =
     if nat_le iconst_0 op && nat_le op iconst_5 then Next (Int (pos (op - iconst_0)) ∷ stack) shared
     else if op == pop then dropped stack shared
@@ -102,7 +102,7 @@ static_effect method (Some (class, shape)) stack shared =
     found_effect method class (method_named shape method.name method.descriptor) stack shared
 
 -- the instructions with a reference to a field or to a method of a class
-unfoldable pub reference_row : List ClassShape → ℕ → MemberReference → List Value → List Value → Shared → Row form
+abbrev pub reference_row : List ClassShape → ℕ → MemberReference → List Value → List Value → Shared → Row form
 reference_row classes op reference locals stack shared =
     if op == getstatic then quiet locals (field_effect reference stack shared)
     else if op == invokevirtual then virtual_row reference locals stack shared
