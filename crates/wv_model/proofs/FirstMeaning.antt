@@ -1,5 +1,6 @@
 -- The written class of the first form corresponds to the game class under its mixin.
 use Rattle.std.proofs.Common.{◌≡◌, ℕ, ◌<◌, List, [], ◌∷◌, length, refl, sym, ap, subst, inl, arith}
+use Rattle.std.specs.List.{AllZip}
 use Rattle.wv_base.specs.declared.class_file.ClassFile.{ClassFile}
 use Rattle.wv_base.specs.declared.class_file.Member.{Member}
 use Rattle.wv_base.specs.Folder.{File}
@@ -10,7 +11,7 @@ use Rattle.wv_model.specs.Corresponds.{Corresponds, steps_for_one}
 use Rattle.wv_model.specs.FrameLaws.{FrameLaws}
 use Rattle.wv_model.specs.FrameRelation.{one_shared}
 use Rattle.wv_model.specs.Lifted.{none_below, running}
-use Rattle.wv_model.specs.FirstMeaning.{MeansHooked, MeansFolder, AreSpelled, FormRel, at_same_point, form_relation}
+use Rattle.wv_model.specs.FirstMeaning.{MeansHooked, MeansFolder, IsFileOf, FormRel, at_same_point, form_relation}
 use Rattle.wv_model.specs.Entries.{Entry, entry_arguments, entry_method, entry_shared}
 use Rattle.wv_model.specs.FormDomain.{Start, Answer, form_rules}
 use Rattle.wv_model.specs.HookMachine.{Entering, hook_control, hook_machine, hook_start, script_of, hooked, hooked_shape}
@@ -67,6 +68,6 @@ woven_corresponds folder files woven =
       mixin = woven.mixin;
       has_mixin = woven.has_mixin;
       classes = written.class ∷ [];
-      spelled = subst (λ list. AreSpelled list (written.class ∷ [])) (sym written.one_file) (written.spelled, tt);
+      files_of = subst (λ list. AllZip IsFileOf list (written.class ∷ [])) (sym written.one_file) ((written.spelled, written.verifies), tt);
       means = written_corresponds woven.game woven.mixin files woven.has_mixin.2.plain.of_role written;
     }

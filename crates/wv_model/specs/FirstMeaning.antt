@@ -1,6 +1,6 @@
 -- What the written class of the first form means: it corresponds to the game class under its mixin. Our own.
 use Rattle.std.specs.Prelude.{◌≡◌, ℕ, List}
-use Rattle.std.specs.List.{AllZip}
+use Rattle.std.specs.List.{AllByRecursion, AllZip}
 use Rattle.wv_base.specs.declared.class_file.ClassFile.{ClassFile}
 use Rattle.wv_base.specs.Folder.{File}
 use Rattle.wv_model.specs.Corresponds.{Corresponds}
@@ -12,7 +12,7 @@ use Rattle.wv_model.specs.Step.{State}
 use Rattle.wv_model.specs.FormDomain.{Value, MethodId, Shared, Answer, form}
 use Rattle.wv_model.specs.Entries.{Entry}
 use Rattle.wv_model.specs.PlainCode.{Game, Mixin}
-use Rattle.wv_model.specs.PlainClass.{Spells}
+use Rattle.wv_model.specs.PlainClass.{IsPlainMethod, Spells}
 use Rattle.wv_model.specs.FirstForm.{HasClass}
 use Rattle.wv_model.specs.PlainMachine.{frame_at, plain_machine, plain_start}
 use Rattle.wv_model.specs.HookMachine.{Point, insn_at, hook_machine, hook_start}
@@ -22,18 +22,18 @@ abbrev pub MeansHooked : ClassFile → ClassFile → List ClassFile → Type 0
 MeansHooked game mixin classes =
     (entry : Entry) (most : ℕ) (answers : List Answer) → Corresponds (plain_machine classes) (plain_start entry most answers) (hook_machine game mixin) (hook_start entry most answers)
 
--- the files spell these classes
-abbrev pub AreSpelled : List File → List ClassFile → Type 0
-AreSpelled files classes = AllZip (λ file class. Spells Game file.1 class) files classes
+-- the file spells this class, and the code of its methods is plain
+abbrev pub IsFileOf : File → ClassFile → Type 0
+IsFileOf file class = Spells Game file.1 class × AllByRecursion (IsPlainMethod Game) class.methods
 
--- the files do what the folder's game class does under its mixin
+-- the files are those of classes that do what the folder's game class does under its mixin
 pub record MeansFolder (folder files : List File) : Type 0 where
   pub game : ClassFile
   pub has_game : HasClass folder Game game
   pub mixin : ClassFile
   pub has_mixin : HasClass folder Mixin mixin
   pub classes : List ClassFile
-  pub spelled : AreSpelled files classes
+  pub files_of : AllZip IsFileOf files classes
   pub means : MeansHooked game mixin classes
 
 -- two frames of a method whose next instruction is the same one, with the same locals and stack; the number is 0, since
