@@ -1,5 +1,5 @@
 -- The written class of the first form corresponds to the game class under its mixin.
-use Rattle.std.proofs.Common.{◌≡◌, ℕ, ◌<◌, List, [], ◌∷◌, length, refl, sym, ap, subst, inl, arith}
+use Rattle.std.proofs.Common.{◌≡◌, ℕ, List, [], ◌∷◌, length, refl, sym, subst, inl, arith}
 use Rattle.std.specs.List.{AllZip}
 use Rattle.wv_base.specs.declared.class_file.ClassFile.{ClassFile}
 use Rattle.wv_base.specs.declared.class_file.Member.{Member}
@@ -7,17 +7,16 @@ use Rattle.wv_base.specs.Folder.{File}
 use Rattle.wv_model.specs.PlainClass.{MeetsRole}
 use Rattle.wv_model.specs.PlainCode.{Mixin}
 use Rattle.wv_model.specs.Simulates.{SimulatesWithin}
-use Rattle.wv_model.specs.Corresponds.{Corresponds, steps_for_one}
+use Rattle.wv_model.specs.Corresponds.{steps_for_one}
 use Rattle.wv_model.specs.FrameLaws.{FrameLaws}
 use Rattle.wv_model.specs.FrameRelation.{one_shared}
 use Rattle.wv_model.specs.Lifted.{none_below, running}
 use Rattle.wv_model.specs.FirstMeaning.{MeansHooked, MeansFolder, IsFileOf, FormRel, at_same_point, form_relation}
 use Rattle.wv_model.specs.Entries.{Entry, entry_arguments, entry_method, entry_shared}
 use Rattle.wv_model.specs.FormDomain.{Start, Answer, form_rules}
-use Rattle.wv_model.specs.HookMachine.{Entering, hook_control, hook_machine, hook_start, script_of, hooked, hooked_shape}
-use Rattle.wv_model.specs.Linking.{ClassShape}
+use Rattle.wv_model.specs.HookMachine.{Entering, hook_control, hook_machine, hook_start, script_of, hooked_shape}
 use Rattle.wv_model.specs.MemberTable.{IsTable, IsWritten, IsWoven}
-use Rattle.wv_model.specs.PlainMachine.{body_of, frame_at, plain, plain_control, plain_machine, plain_start, shape_of}
+use Rattle.wv_model.specs.PlainMachine.{body_of, frame_at, plain, plain_control, plain_machine, plain_start}
 use Rattle.wv_model.proofs.FormFrames.{form_laws}
 use Rattle.wv_model.proofs.HookedTable.{same_body, same_shape}
 use Rattle.wv_model.proofs.Lift.{lifts, starts_correspond}

@@ -1,10 +1,10 @@
 -- The machines of the first form meet the laws on single frames, where each method's code means the same in both.
-use Rattle.std.proofs.Common.{◌≡◌, ℕ, ◌<◌, ◌⊎◌, List, map, Option, Some, None, refl, sym, ap, ◌∙◌, subst, inl, inr, arith}
-use Rattle.std.specs.Prelude.{slice_get, option_map}
+use Rattle.std.proofs.Common.{◌≡◌, ℕ, ◌<◌, ◌⊎◌, List, map, Option, Some, None, refl, sym, ap, ◌∙◌, subst, inr}
+use Rattle.std.specs.Prelude.{slice_get}
 use Rattle.std.proofs.lemmas.Option.{slice_get-map}
 use Rattle.wv_base.specs.declared.insn.Insn.{Insn}
 use Rattle.wv_model.specs.Effect.{Effect, Next, Jump, Call, Give, Raise, Init, End, Stuck, Row}
-use Rattle.wv_model.specs.Frame.{Frame, cleared}
+use Rattle.wv_model.specs.Frame.{Frame}
 use Rattle.wv_model.specs.Course.{move, move_of_row, resumed}
 use Rattle.wv_model.specs.FrameRelation.{OneShared, one_shared, Running, IsQuiet, IsMatched, AlikeLater}
 use Rattle.wv_model.specs.FrameLaws.{FrameLaws}
@@ -12,7 +12,7 @@ use Rattle.wv_model.specs.FormDomain.{Value, MethodId, Shared, Ending, Piece, fo
 use Rattle.wv_model.specs.Linking.{ClassShape}
 use Rattle.wv_model.specs.PlainRows.{row_at}
 use Rattle.wv_model.specs.PlainMachine.{frame_at, plain}
-use Rattle.wv_model.specs.HookMachine.{Script, Point, Entering, After, insn_at, meant, running, hooked}
+use Rattle.wv_model.specs.HookMachine.{Script, Point, insn_at, meant, running, hooked}
 use Rattle.wv_model.specs.FirstMeaning.{AtSamePoint, at_same_point, form_relation}
 
 -- code with each instruction as it is meant

@@ -1,5 +1,5 @@
 -- The class that is written has the members that the hook machine has, with code that means the same.
-use Rattle.std.proofs.Common.{◌≡◌, ℕ, suc, zero, ◌≤◌, ◌&&◌, Bool, true, false, List, [], ◌∷◌, map, length, get_or, Option, Some, None, refl, sym, ap, ◌∙◌, subst, arith, Contains}
+use Rattle.std.proofs.Common.{◌≡◌, ℕ, suc, zero, ◌&&◌, Bool, true, false, List, [], ◌∷◌, map, get_or, Option, Some, None, refl, sym, ap, ◌∙◌, subst, arith, Contains}
 use Rattle.std.specs.Prelude.{bytes_eq, slice_get, option_map, unwrap_or}
 use Rattle.std.specs.List.{AllZip, find}
 use Rattle.std.proofs.lemmas.Option.{slice_get-map}
@@ -9,12 +9,12 @@ use Rattle.wv_base.specs.declared.class_file.ClassFile.{ClassFile}
 use Rattle.wv_base.specs.declared.class_file.Member.{Member}
 use Rattle.wv_base.specs.declared.insn.Insn.{Insn}
 use Rattle.wv_model.specs.FormDomain.{MethodId, Start, At}
-use Rattle.wv_model.specs.Linking.{MethodShape, method_shape}
+use Rattle.wv_model.specs.Linking.{method_shape}
 use Rattle.wv_model.specs.PlainClass.{AreSame}
-use Rattle.wv_model.specs.PlainCode.{Role, Game, Mixin}
-use Rattle.wv_model.specs.PlainMachine.{item, code_of, code_in, body_of, shape_of}
+use Rattle.wv_model.specs.PlainCode.{Game}
+use Rattle.wv_model.specs.PlainMachine.{item, code_of, body_of, shape_of}
 use Rattle.wv_model.specs.MemberTable.{IsMember, replaced, unchanged, IsTable, overwritten, body_in_target, read_in_target}
-use Rattle.wv_model.specs.HookMachine.{Script, TableMember, is_same, script_for, table_member, member_table, hooked_shape, no_script, script_in, script_of, meant}
+use Rattle.wv_model.specs.HookMachine.{TableMember, is_same, script_for, table_member, member_table, hooked_shape, no_script, script_of, meant}
 use Rattle.wv_model.proofs.FormFrames.{read_script}
 
 -- a member that is written, and one of the hook machine

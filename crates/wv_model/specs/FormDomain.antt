@@ -1,5 +1,5 @@
 -- What both machines of the first form are over (JVM Specification 2.3, 2.4 and 2.5). The bounds are our own.
-use Rattle.std.specs.Prelude.{ℕ, ℤ, List, [], Option, false}
+use Rattle.std.specs.Prelude.{ℕ, ℤ, List, [], false}
 use Rattle.wv_model.specs.Domain.{Domain}
 use Rattle.wv_model.specs.Control.{Rules}
 use Rattle.wv_base.specs.declared.constant.MemberReference.{MemberReference}

@@ -5,10 +5,9 @@ use Rattle.wv_base.specs.declared.class_file.ClassFile.{ClassFile}
 use Rattle.wv_base.specs.declared.class_file.Member.{Member}
 use Rattle.wv_base.specs.declared.insn.Insn.{Insn}
 use Rattle.wv_model.specs.Control.{Control}
-use Rattle.wv_model.specs.Frame.{Frame}
 use Rattle.wv_model.specs.Machine.{Machine, Run, run}
 use Rattle.wv_model.specs.Step.{State, machine, start}
-use Rattle.wv_model.specs.FormDomain.{Value, MethodId, Start, At, Shared, Piece, Ending, Answer, form, form_rules}
+use Rattle.wv_model.specs.FormDomain.{MethodId, Start, At, Piece, Ending, Answer, form, form_rules}
 use Rattle.wv_model.specs.Linking.{ClassShape, MethodShape, method_shape}
 use Rattle.wv_model.specs.PlainRows.{row_at}
 use Rattle.wv_model.specs.PlainCode.{Role, Game, Mixin}

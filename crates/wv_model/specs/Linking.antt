@@ -1,5 +1,5 @@
 -- What the machines see of classes, and the method that a reference names (JVM Specification 5.4.3.3).
-use Rattle.std.specs.Prelude.{ℕ, ◌==◌, ◌&&◌, Bool, List, map, bytes_eq, Option, slice_get, option_and_then, option_map}
+use Rattle.std.specs.Prelude.{ℕ, ◌==◌, ◌&&◌, Bool, List, bytes_eq, Option, slice_get, option_and_then, option_map}
 use Rattle.std.specs.Int.Bits.{bit_and}
 use Rattle.std.specs.List.{position}
 use Rattle.wv_base.specs.declared.class_file.Member.{Member}

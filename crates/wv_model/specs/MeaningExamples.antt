@@ -1,5 +1,5 @@
 -- Small classes on which both machines are tried. Our own.
-use Rattle.std.specs.Prelude.{List, [], ◌∷◌, codes, Some, false}
+use Rattle.std.specs.Prelude.{List, [], ◌∷◌, codes, Some}
 use Rattle.wv_base.specs.declared.class_file.ClassFile.{ClassFile}
 use Rattle.wv_base.specs.declared.class_file.Member.{Member}
 use Rattle.wv_base.specs.declared.insn.Insn.{Insn}

@@ -7,7 +7,7 @@ use Rattle.wv_model.specs.Control.{Control}
 use Rattle.wv_model.specs.Frame.{Frame}
 use Rattle.wv_model.specs.Machine.{Machine, Run, run}
 use Rattle.wv_model.specs.Step.{State, machine, start}
-use Rattle.wv_model.specs.FormDomain.{Value, MethodId, Start, At, Shared, Piece, Ending, Answer, form, form_rules}
+use Rattle.wv_model.specs.FormDomain.{Value, MethodId, Start, At, Piece, Ending, Answer, form, form_rules}
 use Rattle.wv_model.specs.Linking.{ClassShape, method_shape}
 use Rattle.wv_model.specs.PlainRows.{row_at}
 use Rattle.wv_model.specs.Entries.{Entry, entry_method, entry_arguments, entry_shared, start_code}
