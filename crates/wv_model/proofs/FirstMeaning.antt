@@ -1,24 +1,27 @@
 -- The written class of the first form corresponds to the game class under its mixin.
-use Rattle.std.proofs.Common.{◌≡◌, ℕ, List, [], ◌∷◌, length, refl, sym, subst, inl, arith}
+use Rattle.std.proofs.Common.{◌≡◌, ℕ, List, [], ◌∷◌, length, None, refl, sym, subst, inl, arith}
 use Rattle.std.specs.List.{AllZip}
 use Rattle.wv_base.specs.declared.class_file.ClassFile.{ClassFile}
 use Rattle.wv_base.specs.declared.class_file.Member.{Member}
 use Rattle.wv_base.specs.Folder.{File}
 use Rattle.wv_model.specs.PlainClass.{MeetsRole}
 use Rattle.wv_model.specs.PlainCode.{Mixin}
-use Rattle.wv_model.specs.Simulates.{SimulatesWithin}
+use Rattle.wv_model.specs.Simulates.{Follows, SimulatesWithin}
 use Rattle.wv_model.specs.Corresponds.{steps_for_one}
 use Rattle.wv_model.specs.FrameLaws.{FrameLaws}
 use Rattle.wv_model.specs.FrameRelation.{one_shared}
 use Rattle.wv_model.specs.Lifted.{none_below, running}
 use Rattle.wv_model.specs.FirstMeaning.{MeansHooked, MeansFolder, IsFileOf, FormRel, at_same_point, form_relation}
 use Rattle.wv_model.specs.Entries.{Entry, entry_arguments, entry_method, entry_shared}
-use Rattle.wv_model.specs.FormDomain.{Start, Answer, form_rules}
-use Rattle.wv_model.specs.HookMachine.{Entering, hook_control, hook_machine, hook_start, script_of, hooked_shape}
+use Rattle.wv_model.specs.FormDomain.{Start, Answer, form, form_rules}
+use Rattle.wv_model.specs.HookMachine.{Entering, hook_control, hook_machine, hook_start, run_hooked, Point, script_of, hooked_shape}
 use Rattle.wv_model.specs.MemberTable.{IsTable, IsWritten, IsWoven}
-use Rattle.wv_model.specs.PlainMachine.{body_of, frame_at, plain, plain_control, plain_machine, plain_start}
+use Rattle.wv_model.specs.PlainMachine.{body_of, frame_at, plain, plain_control, plain_machine, plain_start, run_plain}
+use Rattle.wv_model.specs.Step.{State}
 use Rattle.wv_model.proofs.FormFrames.{form_laws}
 use Rattle.wv_model.proofs.HookedTable.{same_body, same_shape}
+use Rattle.wv_model.proofs.Corresponds.{follows}
+use Rattle.wv_model.proofs.Lockstep.{same_runs}
 use Rattle.wv_model.proofs.Lift.{lifts, starts_correspond}
 
 -- the laws on single frames, for the written class and the game class under the mixin
@@ -53,6 +56,14 @@ pub start_related : (entry : Entry) (most : ℕ) (answers : List Answer) → For
 start_related entry most answers =
     let shared = entry_shared entry most answers in
     record { same_trace = refl; either = inl (record { first_goes = refl; second_goes = refl; world = shared; alike = one_shared; frames = running at_same_point none_below }) }
+
+pub role_together : (game mixin written : ClassFile) → MeetsRole Mixin mixin → written.name ≡ game.name → IsTable game mixin written.methods → (entry : Entry) (most : ℕ) (answers : List Answer) (n : ℕ) → run_plain (written ∷ []) entry most answers n ≡ run_hooked game mixin entry most answers n
+role_together game mixin written of_role name table entry most answers n =
+    same_runs (plain_machine (written ∷ [])) (hook_machine game mixin) (role_steps game mixin written of_role name table) n (plain_start entry most answers) (hook_start entry most answers) (start_related entry most answers)
+
+pub role_follows : (game mixin written : ClassFile) → MeetsRole Mixin mixin → written.name ≡ game.name → IsTable game mixin written.methods → (n : ℕ) (s : State form ℕ) (t : State form Point) → FormRel n s t → t.ending ≡ None → Follows steps_for_one (plain_machine (written ∷ [])) (hook_machine game mixin) FormRel s t
+role_follows game mixin written of_role name table n s t related going =
+    follows steps_for_one (plain_machine (written ∷ [])) (hook_machine game mixin) FormRel (role_steps game mixin written of_role name table) n s t going related
 
 pub written_corresponds : (game mixin : ClassFile) (files : List File) → MeetsRole Mixin mixin → (written : IsWritten game mixin files) → MeansHooked game mixin (written.class ∷ [])
 written_corresponds game mixin files of_role written =

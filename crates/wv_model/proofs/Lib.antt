@@ -13,5 +13,6 @@ pub mod SmallClass
 pub mod FirstPlace
 pub mod FormFrames
 pub mod HookedTable
+pub mod Lockstep
 pub mod FirstMeaning
 pub mod MeaningExamples

@@ -1,36 +1,42 @@
 //! What the written class of the first form means: it does what the game class does under its mixin. Nothing runs this.
 
-ghost use Rattle.std.specs.Prelude.{◌≡◌, ℕ, List, [], ◌∷◌, None, codes, pos, negsuc};
+ghost use Rattle.std.specs.Prelude.{◌≡◌, ℕ, List, [], ◌∷◌, None, codes};
 ghost use Rattle.wv_base.specs.Folder.{File};
 ghost use Rattle.wv_base.specs.declared.class_file.ClassFile.{ClassFile};
 ghost use Rattle.wv_model.specs.Corresponds.{steps_for_one};
 ghost use Rattle.wv_model.specs.Entries.{Entry, Program};
 ghost use Rattle.wv_model.specs.FirstMeaning.{FormRel, MeansFolder, MeansHooked};
-ghost use Rattle.wv_model.specs.FormDomain.{Answer, Byte, Deep, Piece, Returned, Unlinked};
-ghost use Rattle.wv_model.specs.HookMachine.{hook_machine, hook_start, run_hooked};
-ghost use Rattle.wv_model.specs.Machine.{Budget, Ended, Run};
+ghost use Rattle.wv_model.specs.FormDomain.{Answer, Byte, Deep, Returned, Unlinked, form};
+ghost use Rattle.wv_model.specs.HookMachine.{Point, hook_machine, hook_start, run_hooked};
+ghost use Rattle.wv_model.specs.Machine.{Budget, Ended};
 ghost use Rattle.wv_model.specs.MeaningExamples.{calling_game, calling_method, entry_f, mixin_with, printing_method, written_with};
 ghost use Rattle.wv_model.specs.MemberTable.{IsTable, IsWoven, IsWritten};
 ghost use Rattle.wv_model.specs.PlainClass.{MeetsRole};
 ghost use Rattle.wv_model.specs.PlainCode.{Mixin};
 ghost use Rattle.wv_model.specs.PlainMachine.{plain_machine, plain_start, run_plain};
 ghost use Rattle.wv_model.specs.FirstFormExamples.{small_class};
-ghost use Rattle.wv_model.specs.Simulates.{SimulatesWithin};
+ghost use Rattle.wv_model.specs.Simulates.{Follows, SimulatesWithin};
+ghost use Rattle.wv_model.specs.Step.{State};
 
 /// The written class does what the game class does under its mixin, for every entry, bound on cells, list of answers
 /// and budget: whatever class has the game's name and the members of its table; so the files that are written; so the
-/// files that a folder is woven to.
+/// files that a folder is woven to. In this form the two even take their steps together, so that each budget has the same
+/// run of both.
 pub fn first_form_corresponds()
     ensures table { (game mixin written : ClassFile) → MeetsRole Mixin mixin → written.name ≡ game.name → IsTable game mixin written.methods → MeansHooked game mixin (written ∷ []) }
     ensures written { (game mixin : ClassFile) (files : List File) → MeetsRole Mixin mixin → (written : IsWritten game mixin files) → MeansHooked game mixin (written.class ∷ []) }
+    ensures together { (game mixin written : ClassFile) → MeetsRole Mixin mixin → written.name ≡ game.name → IsTable game mixin written.methods → (entry : Entry) (most : ℕ) (answers : List Answer) (n : ℕ) → run_plain (written ∷ []) entry most answers n ≡ run_hooked game mixin entry most answers n }
     ensures woven { (folder files : List File) → IsWoven folder files → MeansFolder folder files }
 {}
 
-/// The step law of the form: the start states of each entry are related, and from related states each step of the
-/// written class stands for one of the hook machine. The number stays below 800; in this form it is 0.
+/// The step law of the form. The start states of each entry are related. Related states that go on share the same heap,
+/// begun classes and answers; each step of the written class lowers the number, which is below 800, or stands for a step
+/// of the hook machine; and the written class takes 1 to 800 steps to a state related to the hook machine's next.
 pub fn first_form_steps()
-    ensures starts { (game mixin written : ClassFile) (entry : Entry) (most : ℕ) (answers : List Answer) → FormRel 0 (plain_start entry most answers) (hook_start entry most answers) }
+    ensures starts { (entry : Entry) (most : ℕ) (answers : List Answer) → FormRel 0 (plain_start entry most answers) (hook_start entry most answers) }
+    ensures shared { (n : ℕ) (s : State form ℕ) (t : State form Point) → FormRel n s t → s.ending ≡ None → s.shared ≡ t.shared }
     ensures steps { (game mixin written : ClassFile) → MeetsRole Mixin mixin → written.name ≡ game.name → IsTable game mixin written.methods → SimulatesWithin steps_for_one (plain_machine (written ∷ [])) (hook_machine game mixin) FormRel }
+    ensures follows { (game mixin written : ClassFile) → MeetsRole Mixin mixin → written.name ≡ game.name → IsTable game mixin written.methods → (n : ℕ) (s : State form ℕ) (t : State form Point) → FormRel n s t → t.ending ≡ None → Follows steps_for_one (plain_machine (written ∷ [])) (hook_machine game mixin) FormRel s t }
 {}
 
 /// What both machines do on small classes: main calls the method that prints 7, in nine steps; a call of that method
