@@ -14,5 +14,6 @@ pub mod FirstPlace
 pub mod FormFrames
 pub mod HookedTable
 pub mod Lockstep
+pub mod PlainSafety
 pub mod FirstMeaning
 pub mod MeaningExamples

@@ -1,10 +1,11 @@
 -- Where a run begins: the start frame of each entry, and what is shared then. Our own.
-use Rattle.std.specs.Prelude.{ℕ, if◌then◌else◌, false, List, [], ◌∷◌, codes, bytes_eq}
+use Rattle.std.specs.Prelude.{◌≡◌, ℕ, if◌then◌else◌, false, List, [], ◌∷◌, codes, bytes_eq}
 use Rattle.wv_base.specs.declared.constant.MemberReference.{MemberReference}
 use Rattle.wv_base.specs.declared.insn.Insn.{Insn}
 use Rattle.wv_base.specs.declared.insn.Insn.TheVariants as insns
 use Rattle.wv_base.specs.Opcodes.{invokestatic, return}
 use Rattle.wv_model.specs.FormDomain.{Value, Reference, Null, Place, Array, Answer, Shared}
+use Rattle.wv_model.specs.PlainClass.{IsPlainDescriptor}
 use Rattle.wv_model.specs.PlainCode.{Game, class_name}
 
 -- an entry: the start of the program, or a call of any static method of a class
@@ -20,6 +21,11 @@ main_descriptor = codes "([Ljava/lang/String;)V"
 abbrev pub entry_method : Entry → MemberReference
 entry_method Program = record { owner = class_name Game; name = codes "main"; descriptor = main_descriptor }
 entry_method (Method method) = method
+
+-- an entry of the form: the program's start, or a call of a method of the game's class that could stand there
+abbrev pub IsFormEntry : Entry → Type 0
+IsFormEntry Program = Unit {0}
+IsFormEntry (Method method) = (method.owner ≡ class_name Game) × IsPlainDescriptor Game method.descriptor
 
 -- the code of the start frame: the call of a method, and `return`
 abbrev pub start_code : MemberReference → List Insn

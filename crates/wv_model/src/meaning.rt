@@ -1,22 +1,24 @@
 //! What the written class of the first form means: it does what the game class does under its mixin. Nothing runs this.
 
 ghost use Rattle.std.specs.Prelude.{◌≡◌, ℕ, List, [], ◌∷◌, None, codes};
+ghost use Rattle.std.specs.List.{AllByRecursion};
 ghost use Rattle.wv_base.specs.Folder.{File};
 ghost use Rattle.wv_base.specs.declared.class_file.ClassFile.{ClassFile};
 ghost use Rattle.wv_model.specs.Corresponds.{steps_for_one};
-ghost use Rattle.wv_model.specs.Entries.{Entry, Program};
+ghost use Rattle.wv_model.specs.Entries.{Entry, IsFormEntry, Program};
 ghost use Rattle.wv_model.specs.FirstMeaning.{FormRel, MeansFolder, MeansHooked};
 ghost use Rattle.wv_model.specs.FormDomain.{Answer, Byte, Deep, Returned, Unlinked, form};
 ghost use Rattle.wv_model.specs.HookMachine.{Point, hook_machine, hook_start, run_hooked};
-ghost use Rattle.wv_model.specs.Machine.{Budget, Ended};
+ghost use Rattle.wv_model.specs.Machine.{Budget, Ended, after};
 ghost use Rattle.wv_model.specs.MeaningExamples.{calling_game, calling_method, entry_f, mixin_with, printing_method, written_with};
 ghost use Rattle.wv_model.specs.MemberTable.{IsTable, IsWoven, IsWritten};
-ghost use Rattle.wv_model.specs.PlainClass.{MeetsRole};
-ghost use Rattle.wv_model.specs.PlainCode.{Mixin};
-ghost use Rattle.wv_model.specs.PlainMachine.{plain_machine, plain_start, run_plain};
+ghost use Rattle.wv_model.specs.PlainClass.{IsPlainMethod, MeetsRole};
+ghost use Rattle.wv_model.specs.PlainCode.{Game, Mixin, class_name};
+ghost use Rattle.wv_model.specs.PlainMachine.{plain_control, plain_machine, plain_start, run_plain};
 ghost use Rattle.wv_model.specs.FirstFormExamples.{small_class};
 ghost use Rattle.wv_model.specs.Simulates.{Follows, SimulatesWithin};
 ghost use Rattle.wv_model.specs.Step.{State};
+ghost use Rattle.wv_model.specs.Typing.{IsStuck};
 
 /// The written class does what the game class does under its mixin, for every entry, bound on cells, list of answers
 /// and budget: whatever class has the game's name and the members of its table; so the files that are written; so the
@@ -37,6 +39,12 @@ pub fn first_form_steps()
     ensures shared { (n : ℕ) (s : State form ℕ) (t : State form Point) → FormRel n s t → s.ending ≡ None → s.shared ≡ t.shared }
     ensures steps { (game mixin written : ClassFile) → MeetsRole Mixin mixin → written.name ≡ game.name → IsTable game mixin written.methods → SimulatesWithin steps_for_one (plain_machine (written ∷ [])) (hook_machine game mixin) FormRel }
     ensures follows { (game mixin written : ClassFile) → MeetsRole Mixin mixin → written.name ≡ game.name → IsTable game mixin written.methods → (n : ℕ) (s : State form ℕ) (t : State form Point) → FormRel n s t → t.ending ≡ None → Follows steps_for_one (plain_machine (written ∷ [])) (hook_machine game mixin) FormRel s t }
+{}
+
+/// There is a row for every step: no step of a run of a plain class with the game's name is stuck, from any entry of the
+/// form.
+pub fn plain_never_stuck()
+    ensures { (class : ClassFile) → class.name ≡ class_name Game → AllByRecursion (IsPlainMethod Game) class.methods → (entry : Entry) → IsFormEntry entry → (most : ℕ) (answers : List Answer) (n : ℕ) → IsStuck (plain_control (class ∷ [])) (after (plain_machine (class ∷ [])) n (plain_start entry most answers)) → ⊥ }
 {}
 
 /// What both machines do on small classes: main calls the method that prints 7, in nine steps; a call of that method
