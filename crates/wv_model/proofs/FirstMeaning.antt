@@ -1,27 +1,31 @@
 -- The written class of the first form corresponds to the game class under its mixin.
-use Rattle.std.proofs.Common.{◌≡◌, ℕ, List, [], ◌∷◌, length, None, refl, sym, subst, inl, arith}
+use Rattle.std.proofs.Common.{◌≡◌, ℕ, List, [], ◌∷◌, length, None, refl, sym, ◌∙◌, subst, inl, arith}
 use Rattle.std.specs.List.{AllZip}
 use Rattle.wv_base.specs.declared.class_file.ClassFile.{ClassFile}
 use Rattle.wv_base.specs.declared.class_file.Member.{Member}
 use Rattle.wv_base.specs.Folder.{File}
 use Rattle.wv_model.specs.PlainClass.{MeetsRole}
-use Rattle.wv_model.specs.PlainCode.{Mixin}
+use Rattle.wv_model.specs.PlainCode.{Game, Mixin, class_name}
 use Rattle.wv_model.specs.Simulates.{Follows, SimulatesWithin}
 use Rattle.wv_model.specs.Corresponds.{steps_for_one}
 use Rattle.wv_model.specs.FrameLaws.{FrameLaws}
 use Rattle.wv_model.specs.FrameRelation.{one_shared}
 use Rattle.wv_model.specs.Lifted.{none_below, running}
 use Rattle.wv_model.specs.FirstMeaning.{MeansHooked, MeansFolder, IsFileOf, FormRel, at_same_point, form_relation}
-use Rattle.wv_model.specs.Entries.{Entry, entry_arguments, entry_method, entry_shared}
+use Rattle.wv_model.specs.Entries.{Entry, IsFormEntry, entry_arguments, entry_method, entry_shared}
 use Rattle.wv_model.specs.FormDomain.{Start, Answer, form, form_rules}
 use Rattle.wv_model.specs.HookMachine.{Entering, hook_control, hook_machine, hook_start, run_hooked, Point, script_of, hooked_shape}
 use Rattle.wv_model.specs.MemberTable.{IsTable, IsWritten, IsWoven}
 use Rattle.wv_model.specs.PlainMachine.{body_of, frame_at, plain, plain_control, plain_machine, plain_start, run_plain}
+use Rattle.wv_model.specs.Machine.{after}
 use Rattle.wv_model.specs.Step.{State}
+use Rattle.wv_model.specs.Typing.{IsStuck}
 use Rattle.wv_model.proofs.FormFrames.{form_laws}
 use Rattle.wv_model.proofs.HookedTable.{same_body, same_shape}
 use Rattle.wv_model.proofs.Corresponds.{follows}
-use Rattle.wv_model.proofs.Lockstep.{same_runs}
+use Rattle.wv_model.proofs.HookSafety.{sticks_alike}
+use Rattle.wv_model.proofs.Lockstep.{same_runs, stay_together}
+use Rattle.wv_model.proofs.PlainSafety.{goes_on}
 use Rattle.wv_model.proofs.Lift.{lifts, starts_correspond}
 
 -- the laws on single frames, for the written class and the game class under the mixin
@@ -64,6 +68,17 @@ role_together game mixin written of_role name table entry most answers n =
 pub role_follows : (game mixin written : ClassFile) → MeetsRole Mixin mixin → written.name ≡ game.name → IsTable game mixin written.methods → (n : ℕ) (s : State form ℕ) (t : State form Point) → FormRel n s t → t.ending ≡ None → Follows steps_for_one (plain_machine (written ∷ [])) (hook_machine game mixin) FormRel s t
 role_follows game mixin written of_role name table n s t related going =
     follows steps_for_one (plain_machine (written ∷ [])) (hook_machine game mixin) FormRel (role_steps game mixin written of_role name table) n s t going related
+
+pub hook_goes_on : (game mixin : ClassFile) (files : List File) → MeetsRole Mixin mixin → game.name ≡ class_name Game → IsWritten game mixin files → (entry : Entry) → IsFormEntry entry → (most : ℕ) (answers : List Answer) (n : ℕ) → IsStuck (hook_control game mixin) (after (hook_machine game mixin) n (hook_start entry most answers)) → ⊥
+hook_goes_on game mixin files of_role named written entry fits most answers n stuck =
+    let (one, single) = one_method mixin.methods of_role in
+    let class = written.class in
+    let laws = written_laws game mixin class one single written.name written.table in
+    let law = role_steps game mixin class of_role written.name written.table in
+    let s = after (plain_machine (class ∷ [])) n (plain_start entry most answers) in
+    let t = after (hook_machine game mixin) n (hook_start entry most answers) in
+    let related = stay_together (plain_machine (class ∷ [])) (hook_machine game mixin) law n (plain_start entry most answers) (hook_start entry most answers) (start_related entry most answers) in
+    goes_on class (written.name ∙ named) written.verifies entry fits most answers n (sticks_alike (plain_control (class ∷ [])) (hook_control game mixin) laws 0 s t related stuck)
 
 pub written_corresponds : (game mixin : ClassFile) (files : List File) → MeetsRole Mixin mixin → (written : IsWritten game mixin files) → MeansHooked game mixin (written.class ∷ [])
 written_corresponds game mixin files of_role written =

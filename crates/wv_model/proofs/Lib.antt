@@ -15,5 +15,6 @@ pub mod FormFrames
 pub mod HookedTable
 pub mod Lockstep
 pub mod PlainSafety
+pub mod HookSafety
 pub mod FirstMeaning
 pub mod MeaningExamples

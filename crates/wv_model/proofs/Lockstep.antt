@@ -12,7 +12,7 @@ use Rattle.wv_model.specs.Simulates.{SimulatesWithin}
 use Rattle.wv_model.specs.Step.{State}
 use Rattle.wv_model.proofs.Runs.{same_run, advance_ended, advance_going}
 
-none_ahead : (w : Shared) (method : MethodId) (n : ℕ) (f : Frame form ℕ) (g : Frame form Point) → AtSamePoint w method n f g → n ≡ 0
+pub none_ahead : (w : Shared) (method : MethodId) (n : ℕ) (f : Frame form ℕ) (g : Frame form Point) → AtSamePoint w method n f g → n ≡ 0
 none_ahead w method _ _ _ at_same_point = refl
 
 frames_together : (w : Shared) (n : ℕ) (fs : List (Frame form ℕ)) (gs : List (Frame form Point)) → RelatedFrames form_relation w n fs gs → n ≡ 0
@@ -51,7 +51,7 @@ module _ (first : Machine (State form ℕ) Piece Ending) (second : Machine (Stat
         | inr matches ↦ subst (λ x. FormRel 0 x (advance second t)) here (subst (λ y. FormRel 0 (first.step s) y) there (lowered matches.0 (first.step s) (second.step t) matches.1))
       ]
 
-  stay_together : (n : ℕ) (s : State form ℕ) (t : State form Point) → FormRel 0 s t → FormRel 0 (after first n s) (after second n t)
+  pub stay_together : (n : ℕ) (s : State form ℕ) (t : State form Point) → FormRel 0 s t → FormRel 0 (after first n s) (after second n t)
   stay_together zero s t related = related
   stay_together (suc n) s t related =
       stay_together n (advance first s) (advance second t) (one_step (first.ending s) s t refl related)

@@ -1,10 +1,9 @@
 -- No step of the plain machine over a plain class is stuck.
-use Rattle.std.proofs.Common.{◌≡◌, ℕ, ℤ, pos, ◌-◌, zero, suc, ◌<◌, ◌≤◌, ◌⊎◌, ◌&&◌, Bool, true, false, List, [], ◌∷◌, ◌++◌, map, drop, Option, Some, None, refl, sym, ap, ◌∙◌, subst, inl, inr, arith, codes}
-use Rattle.std.specs.Prelude.{nat_le, ◌==◌, if◌then◌else◌, bytes_eq, slice_get, option_map, option_and_then, unwrap_or, IsSomeAnd}
+use Rattle.std.proofs.Common.{◌≡◌, ℕ, ℤ, pos, ◌-◌, zero, suc, ◌≤◌, ◌&&◌, Bool, true, false, List, [], ◌∷◌, ◌++◌, map, drop, Option, Some, None, refl, sym, ap, ◌∙◌, subst, inl, inr, arith}
+use Rattle.std.specs.Prelude.{◌==◌, if◌then◌else◌, bytes_eq, slice_get, option_map, option_and_then, unwrap_or, IsSomeAnd}
 use Rattle.std.specs.Int.{w32, int_wrapping_add, int_wrapping_mul}
 use Rattle.std.specs.List.{AllByRecursion, AllZip, zip, position, list_any}
 use Rattle.std.proofs.lemmas.Bool.{le-leb}
-use Rattle.std.proofs.lemmas.Option.{slice_get-map}
 use Rattle.wv_base.specs.declared.class_file.Body.{Body}
 use Rattle.wv_base.specs.declared.class_file.ClassFile.{ClassFile}
 use Rattle.wv_base.specs.declared.class_file.Member.{Member}
@@ -15,7 +14,7 @@ use Rattle.wv_base.specs.declared.insn.Insn.{Insn}
 use Rattle.wv_base.specs.declared.insn.Insn.TheVariants as insns
 use Rattle.wv_base.specs.Opcodes.{iconst_0, iconst_5, return, getstatic, invokevirtual, invokestatic}
 use Rattle.wv_model.specs.Control.{Control}
-use Rattle.wv_model.specs.Course.{Course, course_of, move, resumed}
+use Rattle.wv_model.specs.Course.{course_of, move, resumed}
 use Rattle.wv_model.specs.Effect.{Effect, Next, Call, Init, End, Row}
 use Rattle.wv_model.specs.Frame.{Frame}
 use Rattle.wv_model.specs.Typing.{FrameTyping, Keeps, TypingLaws, IsStuck}
@@ -24,7 +23,7 @@ use Rattle.wv_model.specs.Machine.{after}
 use Rattle.wv_model.specs.FormDomain.{Value, Answer, Int, Reference, SystemOut, Null, Place, MethodId, Start, At, Shared, Unlinked, form, form_rules}
 use Rattle.wv_model.specs.Linking.{ClassShape, MethodShape, class_named, method_named, is_static, method_shape}
 use Rattle.wv_model.specs.PlainClass.{IsPlainBody, IsPlainMethod}
-use Rattle.wv_model.specs.PlainCode.{Game, class_name, system_out, println, IsPlainInsn, IsPlainReference, IsOwnMethod, EndsWithReturn}
+use Rattle.wv_model.specs.PlainCode.{Game, class_name, system_out, println, IsPlainInsn, IsPlainReference, IsOwnMethod}
 use Rattle.wv_model.specs.PlainMachine.{item, code_of, body_of, frame_at, plain_control, plain_machine, plain_start, shape_of}
 use Rattle.wv_model.specs.PlainRows.{insn_row, row_at, plain_effect, arguments, called, once_begun, found_effect, static_effect, reference_row, dropped, combined, println_row, push_effect}
 use Rattle.wv_model.proofs.Safety.{never_stuck, starts_typed}

@@ -8,7 +8,7 @@ ghost use Rattle.wv_model.specs.Corresponds.{steps_for_one};
 ghost use Rattle.wv_model.specs.Entries.{Entry, IsFormEntry, Program};
 ghost use Rattle.wv_model.specs.FirstMeaning.{FormRel, MeansFolder, MeansHooked};
 ghost use Rattle.wv_model.specs.FormDomain.{Answer, Byte, Deep, Returned, Unlinked, form};
-ghost use Rattle.wv_model.specs.HookMachine.{Point, hook_machine, hook_start, run_hooked};
+ghost use Rattle.wv_model.specs.HookMachine.{Point, hook_control, hook_machine, hook_start, run_hooked};
 ghost use Rattle.wv_model.specs.Machine.{Budget, Ended, after};
 ghost use Rattle.wv_model.specs.MeaningExamples.{calling_game, calling_method, entry_f, mixin_with, printing_method, written_with};
 ghost use Rattle.wv_model.specs.MemberTable.{IsTable, IsWoven, IsWritten};
@@ -41,10 +41,11 @@ pub fn first_form_steps()
     ensures follows { (game mixin written : ClassFile) → MeetsRole Mixin mixin → written.name ≡ game.name → IsTable game mixin written.methods → (n : ℕ) (s : State form ℕ) (t : State form Point) → FormRel n s t → t.ending ≡ None → Follows steps_for_one (plain_machine (written ∷ [])) (hook_machine game mixin) FormRel s t }
 {}
 
-/// There is a row for every step: no step of a run of a plain class with the game's name is stuck, from any entry of the
-/// form.
-pub fn plain_never_stuck()
-    ensures { (class : ClassFile) → class.name ≡ class_name Game → AllByRecursion (IsPlainMethod Game) class.methods → (entry : Entry) → IsFormEntry entry → (most : ℕ) (answers : List Answer) (n : ℕ) → IsStuck (plain_control (class ∷ [])) (after (plain_machine (class ∷ [])) n (plain_start entry most answers)) → ⊥ }
+/// There is a row for every step, from any entry of the form: no step of a run of a plain class with the game's name is
+/// stuck, and no step of a run of the hook machine whose class can be written.
+pub fn form_never_stuck()
+    ensures plain { (class : ClassFile) → class.name ≡ class_name Game → AllByRecursion (IsPlainMethod Game) class.methods → (entry : Entry) → IsFormEntry entry → (most : ℕ) (answers : List Answer) (n : ℕ) → IsStuck (plain_control (class ∷ [])) (after (plain_machine (class ∷ [])) n (plain_start entry most answers)) → ⊥ }
+    ensures hooked { (game mixin : ClassFile) (files : List File) → MeetsRole Mixin mixin → game.name ≡ class_name Game → IsWritten game mixin files → (entry : Entry) → IsFormEntry entry → (most : ℕ) (answers : List Answer) (n : ℕ) → IsStuck (hook_control game mixin) (after (hook_machine game mixin) n (hook_start entry most answers)) → ⊥ }
 {}
 
 /// What both machines do on small classes: main calls the method that prints 7, in nine steps; a call of that method
