@@ -18,3 +18,6 @@ pub mod PlainSafety
 pub mod HookSafety
 pub mod FirstMeaning
 pub mod MeaningExamples
+pub mod OnePool
+pub mod OneCode
+pub mod OneClass

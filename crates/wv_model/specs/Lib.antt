@@ -29,4 +29,5 @@ pub mod Entries
 pub mod PlainMachine
 pub mod HookMachine
 pub mod FirstMeaning
+pub mod WithoutNotes
 pub mod MeaningExamples
