@@ -1,10 +1,12 @@
 -- The written class of the first form corresponds to the game class under its mixin.
-use Rattle.std.proofs.Common.{◌≡◌, ℕ, List, [], ◌∷◌, length, None, refl, sym, ◌∙◌, subst, inl, arith}
+use Rattle.std.proofs.Common.{◌≡◌, ℕ, List, [], ◌∷◌, length, Contains, Option, Some, None, refl, sym, ap, ◌∙◌, subst, inl, arith}
+use Rattle.std.specs.Prelude.{option_map}
 use Rattle.std.specs.List.{AllZip}
 use Rattle.wv_base.specs.declared.class_file.ClassFile.{ClassFile}
 use Rattle.wv_base.specs.declared.class_file.Member.{Member}
-use Rattle.wv_base.specs.Folder.{File}
-use Rattle.wv_model.specs.PlainClass.{MeetsRole}
+use Rattle.wv_base.specs.Folder.{File, content_of}
+use Rattle.wv_model.specs.FirstForm.{HasClass, class_path}
+use Rattle.wv_model.specs.PlainClass.{IsPlainClass, MeetsRole}
 use Rattle.wv_model.specs.PlainCode.{Game, Mixin, class_name}
 use Rattle.wv_model.specs.Simulates.{Follows, SimulatesWithin}
 use Rattle.wv_model.specs.Corresponds.{steps_for_one}
@@ -15,16 +17,17 @@ use Rattle.wv_model.specs.FirstMeaning.{MeansHooked, MeansFolder, IsFileOf, Form
 use Rattle.wv_model.specs.Entries.{Entry, IsFormEntry, entry_arguments, entry_method, entry_shared}
 use Rattle.wv_model.specs.FormDomain.{Start, Answer, form, form_rules}
 use Rattle.wv_model.specs.HookMachine.{Entering, hook_control, hook_machine, hook_start, run_hooked, Point, script_of, hooked_shape}
-use Rattle.wv_model.specs.MemberTable.{IsTable, IsWritten, IsWoven}
+use Rattle.wv_model.specs.MemberTable.{IsMember, replaced, unchanged, IsTable, IsWritten, IsWoven, body_in_target, written_path}
 use Rattle.wv_model.specs.PlainMachine.{body_of, frame_at, plain, plain_control, plain_machine, plain_start, run_plain}
 use Rattle.wv_model.specs.Machine.{after}
 use Rattle.wv_model.specs.Step.{State}
 use Rattle.wv_model.specs.Typing.{IsStuck}
 use Rattle.wv_model.proofs.FormFrames.{form_laws}
-use Rattle.wv_model.proofs.HookedTable.{same_body, same_shape}
+use Rattle.wv_model.proofs.HookedTable.{only_one, same_body, same_shape}
 use Rattle.wv_model.proofs.Corresponds.{follows}
 use Rattle.wv_model.proofs.HookSafety.{sticks_alike}
 use Rattle.wv_model.proofs.Lockstep.{same_runs, stay_together}
+use Rattle.wv_model.proofs.OneClass.{SameMethod, one_game, same_class}
 use Rattle.wv_model.proofs.PlainSafety.{goes_on}
 use Rattle.wv_model.proofs.Lift.{lifts, starts_correspond}
 
@@ -84,15 +87,72 @@ pub written_corresponds : (game mixin : ClassFile) (files : List File) → Meets
 written_corresponds game mixin files of_role written =
     role_corresponds game mixin written.class of_role written.name written.table
 
+-- ---- However the folder's classes are read
+
+-- a member is that of any mixin with the same one method
+member_moves : (a b : ClassFile) (one two : Member) → a.methods ≡ one ∷ [] → b.methods ≡ two ∷ [] → SameMethod one two → (old new : Member) → IsMember a old new → IsMember b old new
+member_moves a b one two single other same old _ (replaced {origin} contains is) =
+    let here : origin ≡ one = only_one one origin (subst (λ methods. Contains methods origin) single contains) in
+    let body : two.body ≡ origin.body = sym same.body ∙ ap (λ m. m.body) (sym here) in
+    let name : old.name ≡ two.name = is.0 ∙ ap (λ m. m.name) here ∙ same.name in
+    let descriptor : old.descriptor ≡ two.descriptor = is.1 ∙ ap (λ m. m.descriptor) here ∙ same.descriptor in
+    let has : Contains b.methods two = subst (λ methods. Contains methods two) (sym other) (0, omega arith, refl) in
+    subst (IsMember b old) (ap (λ found. record old { body = option_map body_in_target found; value = None; throws = []; notes = []; kept = [] }) body) (replaced has (name, descriptor))
+member_moves a b one two single other same old _ (unchanged none) =
+    unchanged (λ origin contains is. let here : origin ≡ two = only_one two origin (subst (λ methods. Contains methods origin) other contains) in let has : Contains a.methods one = subst (λ methods. Contains methods one) (sym single) (0, omega arith, refl) in none one has (is.0 ∙ ap (λ m. m.name) here ∙ sym same.name, is.1 ∙ ap (λ m. m.descriptor) here ∙ sym same.descriptor))
+
+members_move : (a b : ClassFile) (one two : Member) → a.methods ≡ one ∷ [] → b.methods ≡ two ∷ [] → SameMethod one two → (olds news : List Member) → AllZip (IsMember a) olds news → AllZip (IsMember b) olds news
+members_move a b one two single other same [] [] all = tt
+members_move a b one two single other same (old ∷ olds) (new ∷ news) (here, rest) =
+    (member_moves a b one two single other same old new here, members_move a b one two single other same olds news rest)
+members_move a b one two single other same [] (new ∷ news) all = absurd all
+members_move a b one two single other same (old ∷ olds) [] all = absurd all
+
+table_moves : (game a b : ClassFile) (methods : List Member) → MeetsRole Mixin a → MeetsRole Mixin b → AllZip SameMethod a.methods b.methods → IsTable game a methods → IsTable game b methods
+table_moves game a b methods of_role also same table =
+    let (one, single) = one_method a.methods of_role in
+    let (two, other) = one_method b.methods also in
+    let both = subst (λ x. AllZip SameMethod x (two ∷ [])) single (subst (AllZip SameMethod a.methods) other same) in
+    members_move a b one two single other both.0 game.methods methods table
+
+-- what a path has is one content
+one_content : (o : Option (List ℕ)) (first second : List ℕ) → o ≡ Some first → o ≡ Some second → first ≡ second
+one_content o first second e f = let same : Some first ≡ Some second = sym e ∙ f in cc
+
+one_game_class : (folder : List File) (first second : ClassFile) → HasClass folder Game first → HasClass folder Game second → first ≡ second
+one_game_class folder first second (content, at, is) (other, there, also) =
+    let same = one_content (content_of (class_path Game) folder) content other at there in
+    let here : IsPlainClass Game content second = subst (λ bytes. IsPlainClass Game bytes second) (sym same) also in
+    one_game content first second is.spelled here.spelled is.plain.methods here.plain.methods
+
+same_mixin_methods : (folder : List File) (first second : ClassFile) → HasClass folder Mixin first → HasClass folder Mixin second → AllZip SameMethod first.methods second.methods
+same_mixin_methods folder first second (content, at, is) (other, there, also) =
+    let same = one_content (content_of (class_path Mixin) folder) content other at there in
+    let here : IsPlainClass Mixin content second = subst (λ bytes. IsPlainClass Mixin bytes second) (sym same) also in
+    (same_class Mixin content first second is.spelled here.spelled is.plain.methods here.plain.methods).methods
+
+only_class : (file : File) (class : ClassFile) (others : List ClassFile) → IsFileOf file class → AllZip IsFileOf (file ∷ []) others → others ≡ class ∷ []
+only_class file class [] is all = absurd all
+only_class file class (other ∷ []) is (here, rest) =
+    ap (λ c. c ∷ []) (one_game file.1 other class here.0 is.0 here.1 is.1)
+only_class file class (other ∷ (more ∷ others)) is (here, rest) = absurd rest
+
 pub woven_corresponds : (folder files : List File) → IsWoven folder files → MeansFolder folder files
 woven_corresponds folder files woven =
     let written = woven.written in
+    let class = written.class in
+    let is_file : IsFileOf (written_path, written.bytes) class = (written.spelled, written.verifies) in
     record {
-      game = woven.game;
-      has_game = woven.has_game;
-      mixin = woven.mixin;
-      has_mixin = woven.has_mixin;
-      classes = written.class ∷ [];
-      files_of = subst (λ list. AllZip IsFileOf list (written.class ∷ [])) (sym written.one_file) ((written.spelled, written.verifies), tt);
-      means = written_corresponds woven.game woven.mixin files woven.has_mixin.2.plain.of_role written;
+      has_game = (woven.game, woven.has_game);
+      has_mixin = (woven.mixin, woven.has_mixin);
+      classes = class ∷ [];
+      files_of = subst (λ list. AllZip IsFileOf list (class ∷ [])) (sym written.one_file) (is_file, tt);
+      only = λ others all. only_class (written_path, written.bytes) class others is_file (subst (λ list. AllZip IsFileOf list others) written.one_file all);
+      means =
+          λ game mixin has_game has_mixin.
+          let same = one_game_class folder woven.game game woven.has_game has_game in
+          let of_role = woven.has_mixin.2.plain.of_role in
+          let also = has_mixin.2.plain.of_role in
+          let table = table_moves woven.game woven.mixin mixin class.methods of_role also (same_mixin_methods folder woven.mixin mixin woven.has_mixin has_mixin) written.table in
+          subst (λ g. MeansHooked g mixin (class ∷ [])) same (role_corresponds woven.game mixin class also written.name table);
     }

@@ -67,7 +67,7 @@ kept_alike : (old origin : Member) → find (is_same old) (origin ∷ []) ≡ No
 kept_alike old origin found =
     subst (λ o. AreAlike old (record { shape = method_shape old; script = script_for old o })) (sym found) (record { shape = refl; code = as_it_is (code_of old) })
 
-only_one : (one origin : Member) → Contains (one ∷ []) origin → origin ≡ one
+pub only_one : (one origin : Member) → Contains (one ∷ []) origin → origin ≡ one
 only_one one origin (k, within, at) = let e : k ≡ 0 = omega arith in sym (subst (λ i. get_or (one ∷ []) i origin ≡ origin) e at)
 
 member_alike : (mixin : ClassFile) (one old written : Member) → mixin.methods ≡ one ∷ [] → IsMember mixin old written → AreAlike written (table_member mixin.methods old)

@@ -90,13 +90,15 @@ module _ (role : Role) (pool : List PoolEntry) (small : length pool + 1 < 2 ^ 16
       let (descriptor, tail) = same_u2 first.descriptor_number second.descriptor_number (first.attributes ++ r) (second.attributes ++ s) (number_fits pool first.descriptor_number _ small first.descriptor) (number_fits pool second.descriptor_number _ small second.descriptor) rest in
       let plain_first = body_plain role a.descriptor a.body first.body first.has_body plain.code in
       let plain_second = body_plain role b.descriptor b.body second.body second.has_body also.code in
-      let (body, left) = same_attributes pool small role first.body second.body first.attributes second.attributes r s plain_first plain_second first.attributes_spelled second.attributes_spelled tail in
-      (record {
-        flags = ap (λ bits. record { 0 = bits }) flags;
-        name = one_text pool first.name_number a.name b.name first.name (subst (λ n. IsText pool n b.name) (sym name) second.name);
-        descriptor = one_text pool first.descriptor_number a.descriptor b.descriptor first.descriptor (subst (λ n. IsText pool n b.descriptor) (sym descriptor) second.descriptor);
-        body = first.has_body ∙ ap Some body ∙ sym second.has_body;
-      }, left)
+      let (body, left) = same_attributes pool small role first.body second.body first.attributes second.attributes r s plain_first plain_second first.attributes_spelled second.attributes_spelled tail in (
+        record {
+          flags = ap (λ bits. record { 0 = bits }) flags;
+          name = one_text pool first.name_number a.name b.name first.name (subst (λ n. IsText pool n b.name) (sym name) second.name);
+          descriptor = one_text pool first.descriptor_number a.descriptor b.descriptor first.descriptor (subst (λ n. IsText pool n b.descriptor) (sym descriptor) second.descriptor);
+          body = first.has_body ∙ ap Some body ∙ sym second.has_body;
+        },
+        left,
+      )
 
   same_methods : (a b : List Member) (ps qs : List (List ℕ)) (r s : List ℕ) → AllByRecursion (IsPlainMethod role) a → AllByRecursion (IsPlainMethod role) b → AllZip (SpellsMethod role pool) a ps → AllZip (SpellsMethod role pool) b qs → length a ≡ length b → concat ps ++ r ≡ concat qs ++ s → AllZip SameMethod a b
   same_methods [] [] ps qs r s plain also first second long e = tt

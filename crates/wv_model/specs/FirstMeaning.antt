@@ -26,15 +26,15 @@ MeansHooked game mixin classes =
 abbrev pub IsFileOf : File → ClassFile → Type 0
 IsFileOf file class = Spells Game file.1 class × AllByRecursion (IsPlainMethod Game) class.methods
 
--- the files are those of classes that do what the folder's game class does under its mixin
+-- the files are those of one list of classes and of no other, which do what the folder's game class does under its mixin,
+-- in whatever way the two are read
 pub record MeansFolder (folder files : List File) : Type 0 where
-  pub game : ClassFile
-  pub has_game : HasClass folder Game game
-  pub mixin : ClassFile
-  pub has_mixin : HasClass folder Mixin mixin
+  pub has_game : (game : ClassFile) × HasClass folder Game game
+  pub has_mixin : (mixin : ClassFile) × HasClass folder Mixin mixin
   pub classes : List ClassFile
   pub files_of : AllZip IsFileOf files classes
-  pub means : MeansHooked game mixin classes
+  pub only : (others : List ClassFile) → AllZip IsFileOf files others → others ≡ classes
+  pub means : (game mixin : ClassFile) → HasClass folder Game game → HasClass folder Mixin mixin → MeansHooked game mixin classes
 
 -- two frames of a method whose next instruction is the same one, with the same locals and stack; the number is 0, since
 -- each step of the written class stands for one of the hook machine
