@@ -1,6 +1,6 @@
 -- Bytes are those of at most one plain class.
-use Rattle.std.proofs.Common.{◌≡◌, ℕ, ◌+◌, ◌^◌, ◌<◌, ◌⊎◌, List, [], ◌∷◌, ◌++◌, length, map, Option, Some, None, refl, sym, ap, ◌∙◌, subst, inl, inr, arith, append_assoc, codes}
-use Rattle.std.specs.Prelude.{IsSomeAnd, false}
+use Rattle.std.proofs.Common.{◌≡◌, ℕ, ◌+◌, ◌^◌, ◌<◌, List, [], ◌∷◌, ◌++◌, length, map, Option, Some, None, refl, sym, ap, ◌∙◌, subst, inl, inr, arith, append_assoc, codes}
+use Rattle.std.specs.Prelude.{IsSomeAnd}
 use Rattle.std.specs.List.{AllByRecursion, AllZip, concat}
 use Rattle.wv_base.specs.declared.class_file.Body.{Body}
 use Rattle.wv_base.specs.declared.access.AccessFlags.{AccessFlags}
@@ -9,8 +9,8 @@ use Rattle.wv_base.specs.declared.class_file.ClassFile.{ClassFile}
 use Rattle.wv_base.specs.declared.class_file.Member.{Member}
 use Rattle.wv_base.specs.declared.class_file.PoolEntry.{PoolEntry}
 use Rattle.wv_model.specs.PlainCode.{Role, Game, Mixin, IsPlainInsn, SpellsBody}
-use Rattle.wv_model.specs.PlainPool.{u2, u4, pool_bytes, IsText, IsClass, IsPlainPool}
-use Rattle.wv_model.specs.PlainClass.{IsPlainClass, Spells, magic, IsAttribute, IsCode, IsInvisibleTable, SpellsOverwrite, SpellsMethodAttributes, SpellsMethod, IsPlainBody, IsPlainMethod}
+use Rattle.wv_model.specs.PlainPool.{u2, u4, pool_bytes, IsText, IsClass}
+use Rattle.wv_model.specs.PlainClass.{IsPlainClass, Spells, magic, IsAttribute, IsCode, SpellsMethodAttributes, SpellsMethod, IsPlainBody, IsPlainMethod}
 use Rattle.wv_model.specs.WithoutNotes.{bare_method, without_notes}
 use Rattle.wv_model.proofs.OnePool.{same_front, same_u2, same_u4, one_text, one_class, one_pool, number_fits}
 use Rattle.wv_model.proofs.OneCode.{same_body}

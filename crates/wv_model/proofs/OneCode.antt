@@ -1,5 +1,5 @@
 -- Bytes are those of at most one piece of plain code.
-use Rattle.std.proofs.Common.{◌≡◌, ℕ, ℤ, ◌+◌, ◌*◌, ◌%◌, ◌/◌, ◌^◌, ◌<◌, ◌≤◌, ◌⊎◌, ◌==◌, Bool, true, false, List, [], ◌∷◌, ◌++◌, length, get_or, Option, Some, None, refl, sym, ap, ◌∙◌, subst, inl, inr, arith, append_assoc}
+use Rattle.std.proofs.Common.{◌≡◌, ℕ, ℤ, ◌+◌, ◌%◌, ◌^◌, ◌<◌, ◌≤◌, ◌==◌, Bool, true, false, List, [], ◌∷◌, ◌++◌, length, get_or, refl, sym, ap, ◌∙◌, subst, inl, inr, arith}
 use Rattle.std.specs.Prelude.{MatchBool, FitsSigned}
 use Rattle.std.specs.Int.{w8, to_be_bytes, cast_unsigned, cast_signed}
 use Rattle.std.specs.List.{AllByRecursion, AllZip, concat}
@@ -10,8 +10,8 @@ use Rattle.wv_base.specs.declared.class_file.PoolEntry.{PoolEntry}
 use Rattle.wv_base.specs.declared.constant.MemberReference.{MemberReference}
 use Rattle.wv_base.specs.declared.insn.Insn.{Insn}
 use Rattle.wv_base.specs.declared.insn.Insn.TheVariants as insns
-use Rattle.wv_base.specs.Opcodes.{iconst_0, iconst_5, bipush, pop, iadd, imul, return, getstatic, invokevirtual, invokestatic}
-use Rattle.wv_model.specs.PlainCode.{Role, IsPlainInsn, IsPlainOpcode, IsPlainReference, IsOperand, SpellsInsn, SpellsCode, SpellsBody}
+use Rattle.wv_base.specs.Opcodes.{bipush, getstatic}
+use Rattle.wv_model.specs.PlainCode.{Role, IsPlainInsn, IsPlainOpcode, IsPlainReference, IsOperand, SpellsInsn, SpellsBody}
 use Rattle.wv_model.specs.PlainPool.{u2, u4, IsField, IsMethod}
 use Rattle.wv_model.proofs.OnePool.{same_front, same_u2, same_u4, one_field, one_method, number_fits}
 
