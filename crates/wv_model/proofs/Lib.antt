@@ -11,3 +11,13 @@ pub mod Limit
 pub mod FirstFormExamples
 pub mod SmallClass
 pub mod FirstPlace
+pub mod FormFrames
+pub mod HookedTable
+pub mod Lockstep
+pub mod PlainSafety
+pub mod HookSafety
+pub mod FirstMeaning
+pub mod MeaningExamples
+pub mod OnePool
+pub mod OneCode
+pub mod OneClass

@@ -22,3 +22,12 @@ pub mod FolderRead
 pub mod FirstForm
 pub mod MemberTable
 pub mod FirstFormExamples
+pub mod FormDomain
+pub mod Linking
+pub mod PlainRows
+pub mod Entries
+pub mod PlainMachine
+pub mod HookMachine
+pub mod FirstMeaning
+pub mod WithoutNotes
+pub mod MeaningExamples

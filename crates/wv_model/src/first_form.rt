@@ -1,7 +1,8 @@
 //! The first form that is woven: what its definitions say of small inputs, and that one rule is the first broken one.
 //! Nothing runs this.
 
-ghost use Rattle.std.specs.Prelude.{◌≡◌, [], ◌∷◌, IsFalse, IsTrue, List, codes};
+ghost use Rattle.std.specs.Prelude.{◌≡◌, ℕ, [], ◌∷◌, IsFalse, IsTrue, List, codes};
+ghost use Rattle.wv_base.specs.declared.class_file.ClassFile.{ClassFile};
 ghost use Rattle.wv_base.specs.Folder.{File};
 ghost use Rattle.wv_base.specs.declared.broken.Broken.{Broken};
 ghost use Rattle.wv_model.specs.FirstForm.{FirstBroken, Unlimited, counts};
@@ -9,9 +10,10 @@ ghost use Rattle.wv_model.specs.FirstFormExamples.{call_of_game, call_of_mixin, 
 ghost use Rattle.wv_model.specs.FolderRead.{PassesLimit, is_read};
 ghost use Rattle.wv_model.specs.MemberTable.{read_in_target};
 ghost use Rattle.wv_model.specs.PlainClass.{IsMagicFault, IsPlainClass};
-ghost use Rattle.wv_model.specs.PlainCode.{Game, SpellsCode};
+ghost use Rattle.wv_model.specs.PlainCode.{Game, Role, SpellsCode};
 ghost use Rattle.wv_model.specs.PlainPool.{IsClass, pool_bytes};
 ghost use Rattle.wv_model.specs.PlainTyping.{HasTyping};
+ghost use Rattle.wv_model.specs.WithoutNotes.{without_notes};
 
 /// The definitions on small inputs: a pool with its bytes, code with its bytes, code that has a typing where its stack
 /// is declared large enough, a class with its bytes, a file that ends within the magic number, a call as it is read
@@ -39,4 +41,11 @@ pub fn first_form_examples()
 pub fn one_first_broken()
     ensures unlimited { (folder : List File) (first second : Broken) → FirstBroken Unlimited folder first → FirstBroken Unlimited folder second → first ≡ second }
     ensures limited { (files folder : List File) (first second : Broken) → FirstBroken (PassesLimit files) folder first → FirstBroken (PassesLimit files) folder second → first ≡ second }
+{}
+
+/// Bytes are those of at most one plain class of a role, but for the annotations, of which a mixin has one on itself and
+/// on each method.
+pub fn one_plain_class()
+    ensures game { (bytes : List ℕ) (first second : ClassFile) → IsPlainClass Game bytes first → IsPlainClass Game bytes second → first ≡ second }
+    ensures any { (role : Role) (bytes : List ℕ) (first second : ClassFile) → IsPlainClass role bytes first → IsPlainClass role bytes second → without_notes first ≡ without_notes second }
 {}

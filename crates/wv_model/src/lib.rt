@@ -8,15 +8,17 @@
 mod first_form;
 mod frames;
 mod machine;
+mod meaning;
 mod schedules;
 mod simulation;
 mod step;
 mod toy;
 mod typing;
 
-pub use first_form::{first_form_examples, one_first_broken};
+pub use first_form::{first_form_examples, one_first_broken, one_plain_class};
 pub use frames::{FrameSimulation, starts_correspond, states_simulate, turns_agree};
 pub use machine::{Growing, longer_run_keeps};
+pub use meaning::{first_form_corresponds, first_form_steps, form_never_stuck, meaning_examples};
 pub use schedules::{ThreadFrames, ThreadSimulation, schedules_correspond, threads_correspond};
 pub use simulation::{Simulation, correspond, ends_alike, keeps_pace};
 pub use step::{Framed, frames_stay_within_limit, steps_only_add};
