@@ -1,0 +1,60 @@
+-- Mods that fit together, and those that don't (fabric.mod.json, schema version 1).
+use Rattle.std.specs.Prelude.{ℕ, Bool, List, filter, IsPermutation}
+use Rattle.std.specs.List.{AllByRecursion}
+use Rattle.std.specs.List.Sorted.{IsSortedByKey, IsStableByKey}
+use Rattle.std.specs.Cmp.Lexicographic.{slice_cmp}
+use Rattle.std.specs.Ordering.{nat_cmp}
+use Rattle.wv_base.specs.declared.broken.Broken.{Broken}
+use Rattle.wv_mod.specs.declared.mod_info.ModInfo.{ModInfo}
+use Rattle.wv_mod.specs.declared.fault.ModFault.{ModFault}
+use Rattle.wv_resolve.specs.declared.kind.Kind.{Kind}
+use Rattle.wv_resolve.specs.declared.kind.Kind.TheVariants.{Depends, Breaks}
+use Rattle.wv_resolve.specs.Presence.{present_ids, AreDistinct}
+use Rattle.wv_resolve.specs.Dependency.{Keeps, all_entries}
+use Rattle.wv_resolve.specs.Refusal.{IsTwiceBroken, IsEntryBroken, IsBrokenFault}
+
+abbrev pub is_loaded : ModInfo → Bool
+is_loaded info = info.loaded
+
+abbrev pub path_of : ModInfo → List ℕ
+path_of info = info.path
+
+abbrev pub id_of : ModInfo → List ℕ
+id_of info = info.id
+
+-- the mods that are loaded, by the bytes of their paths; those with one path as they stand in the list
+pub record AreLoaded (mods loaded : List ModInfo) : Type 0 where
+  pub same : IsPermutation (filter is_loaded mods) loaded
+  pub ordered : IsSortedByKey path_of (slice_cmp nat_cmp) loaded
+  pub stable : IsStableByKey path_of (slice_cmp nat_cmp) (filter is_loaded mods) loaded
+
+-- every entry of one kind is kept
+abbrev pub AllKeep : Kind → List (List ℕ × List ℕ) → List ModInfo → Type 0
+AllKeep kind builtin loaded = AllByRecursion (λ e. Keeps kind (present_ids builtin loaded) e.1) (all_entries kind loaded)
+
+-- the mods fit: no id is present twice, all of `depends` is met, nothing of `breaks` is
+pub record AreFitting (builtin : List (List ℕ × List ℕ)) (loaded : List ModInfo) : Type 0 where
+  pub distinct : AreDistinct (present_ids builtin loaded)
+  pub depends : AllKeep Depends builtin loaded
+  pub breaks : AllKeep Breaks builtin loaded
+
+-- an entry of one kind is the first that fails
+abbrev pub IsUnkept : Kind → List (List ℕ × List ℕ) → List ModInfo → Broken → Type 0
+IsUnkept kind builtin loaded broken = IsEntryBroken kind (present_ids builtin loaded) (all_entries kind loaded) broken
+
+-- the first rule that the mods break: an id is present twice; else an entry of `depends` isn't met; else
+-- an entry of `breaks` is
+pub data IsUnfitting (builtin : List (List ℕ × List ℕ)) (loaded : List ModInfo) : Broken → Type 0 where
+  twice : (broken : Broken) → IsTwiceBroken (present_ids builtin loaded) broken → IsUnfitting builtin loaded broken
+  unmet : (broken : Broken) → AreDistinct (present_ids builtin loaded) → IsUnkept Depends builtin loaded broken → IsUnfitting builtin loaded broken
+  met : (broken : Broken) → AreDistinct (present_ids builtin loaded) → AllKeep Depends builtin loaded → IsUnkept Breaks builtin loaded broken → IsUnfitting builtin loaded broken
+
+-- the loaded mods, which fit, by the bytes of their ids
+abbrev pub AreResolved : List (List ℕ × List ℕ) → (mods resolved : List ModInfo) → Type 0
+AreResolved builtin mods resolved =
+    (loaded : List ModInfo) × AreLoaded mods loaded × AreFitting builtin loaded
+    × IsPermutation loaded resolved × IsSortedByKey id_of (slice_cmp nat_cmp) resolved
+
+-- the first rule that the loaded mods break
+abbrev pub IsBroken : List (List ℕ × List ℕ) → List ModInfo → Broken → Type 0
+IsBroken builtin mods broken = (loaded : List ModInfo) × AreLoaded mods loaded × IsUnfitting builtin loaded broken
