@@ -4,3 +4,5 @@ pub mod Table
 pub mod Twice
 pub mod Entries
 pub mod Fitting
+pub mod Orders
+pub mod OneAnswer

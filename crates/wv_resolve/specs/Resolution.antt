@@ -22,11 +22,15 @@ path_of info = info.path
 abbrev pub id_of : ModInfo → List ℕ
 id_of info = info.id
 
--- the mods that are loaded, by the bytes of their paths; those with one path as they stand in the list
-pub record AreLoaded (mods loaded : List ModInfo) : Type 0 where
-  pub same : IsPermutation (filter is_loaded mods) loaded
-  pub ordered : IsSortedByKey path_of (slice_cmp nat_cmp) loaded
-  pub stable : IsStableByKey path_of (slice_cmp nat_cmp) (filter is_loaded mods) loaded
+-- a list in the order of the bytes of a key; what has the same key stays as it stood
+pub record IsOrderedBy {A : Type 0} (key : A → List ℕ) (list sorted : List A) : Type 0 where
+  pub same : IsPermutation list sorted
+  pub ordered : IsSortedByKey key (slice_cmp nat_cmp) sorted
+  pub stable : IsStableByKey key (slice_cmp nat_cmp) list sorted
+
+-- the mods that are loaded, by the bytes of their paths
+abbrev pub AreLoaded : (mods loaded : List ModInfo) → Type 0
+AreLoaded mods loaded = IsOrderedBy path_of (filter is_loaded mods) loaded
 
 -- every entry of one kind is kept
 abbrev pub AllKeep : Kind → List (List ℕ × List ℕ) → List ModInfo → Type 0
@@ -52,8 +56,7 @@ pub data IsUnfitting (builtin : List (List ℕ × List ℕ)) (loaded : List ModI
 -- the loaded mods, which fit, by the bytes of their ids
 abbrev pub AreResolved : List (List ℕ × List ℕ) → (mods resolved : List ModInfo) → Type 0
 AreResolved builtin mods resolved =
-    (loaded : List ModInfo) × AreLoaded mods loaded × AreFitting builtin loaded
-    × IsPermutation loaded resolved × IsSortedByKey id_of (slice_cmp nat_cmp) resolved
+    (loaded : List ModInfo) × AreLoaded mods loaded × AreFitting builtin loaded × IsOrderedBy id_of loaded resolved
 
 -- the first rule that the loaded mods break
 abbrev pub IsBroken : List (List ℕ × List ℕ) → List ModInfo → Broken → Type 0

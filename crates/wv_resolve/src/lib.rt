@@ -4,11 +4,13 @@
 
 mod check;
 mod kind;
+mod laws;
 mod present;
 mod refusal;
 mod resolution;
 mod source;
 
+pub use laws::{one_refusal, one_resolution, resolved_or_refused};
 pub use resolution::resolve;
 
 #[cfg(test)]

@@ -166,7 +166,7 @@ fn what_breaks_a_rule(rt: HostRuntime) -> Result<(), Fail> {
             alpha,
             (
                 "beta",
-                r#""id":"beta","version":"1","depends":{"gone":"*","zeta":"*"}"#,
+                r#""id":"beta","version":"1","depends":{"zeta":"*","gone":"*"}"#,
             ),
             "16 DependsUnmet at mods/beta/fabric.mod.json wanted gone * found -",
         ),
