@@ -8,10 +8,10 @@ use Rattle.wv_mod.specs.declared.dependency.Dependency.{Dependency}
 use Rattle.wv_mod.specs.declared.mod_info.ModInfo.{ModInfo}
 use Rattle.wv_resolve.specs.declared.kind.Kind.{Kind}
 use Rattle.wv_resolve.specs.declared.kind.Kind.TheVariants as kinds
-use Rattle.wv_resolve.specs.Presence.{Presence, present_ids, IsAbsent, IsPresent, IsPresentAs, AreDistinct}
+use Rattle.wv_resolve.specs.Presence.{Presence, present_ids, IsPresent, AreDistinct}
 use Rattle.wv_resolve.specs.Dependency.{Keeps, Fails, rule_of, all_entries}
-use Rattle.wv_resolve.specs.Refusal.{IsFirst, IsFirstTwice, IsFound, IsRefused, IsTwiceBroken, IsEntryBroken, broken_at, twice_broken, wanted_text}
-use Rattle.wv_resolve.specs.Resolution.{IsOrderedBy, AllKeep, AreLoaded, AreFitting, IsUnkept, IsUnfitting, AreResolved, IsBroken, path_of, id_of, is_loaded, twice, unmet, met}
+use Rattle.wv_resolve.specs.Refusal.{IsFirstTwice, IsFound, IsRefused, IsEntryBroken, broken_at, twice_broken, wanted_text}
+use Rattle.wv_resolve.specs.Resolution.{IsOrderedBy, AreLoaded, AreFitting, IsUnfitting, AreResolved, IsBroken, path_of, id_of, is_loaded, twice, unmet, met}
 use Rattle.wv_resolve.proofs.Lists.{same-of-pairs}
 use Rattle.wv_resolve.proofs.Orders.{one-order}
 

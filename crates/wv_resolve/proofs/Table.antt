@@ -1,5 +1,5 @@
 -- A table of ids: what it holds after one more, and what it says of an entry.
-use Rattle.std.proofs.Common.{◌≡◌, ◌≢◌, ◌↔◌, ◌⊎◌, inl, inr, ℕ, true, false, Bool, IsTrue, List, [], ◌∷◌, ◌++◌, All, Any, Option, Some, None, MatchOption, MatchBool, not, codes, refl, ap, sym, ◌∙◌, subst, true≢false}
+use Rattle.std.proofs.Common.{◌≡◌, ◌≢◌, ◌↔◌, inl, inr, ℕ, true, false, Bool, IsTrue, List, [], ◌∷◌, ◌++◌, Option, Some, None, MatchOption, MatchBool, not, codes, refl, ap, sym, ◌∙◌, subst, true≢false}
 use Rattle.std.specs.Borrow.{Bor}
 use Rattle.std.specs.BTreeMap.{Updates}
 use Rattle.std.specs.Cmp.Lexicographic.{slice_cmp}
@@ -16,7 +16,6 @@ use Rattle.wv_version.proofs.Dotting.{dotted_same}
 use Rattle.wv_mod.specs.declared.dependency.Dependency.{Dependency}
 use Rattle.wv_resolve.specs.declared.source.Source.{Source}
 use Rattle.wv_resolve.specs.declared.present.Present.{Present}
-use Rattle.wv_resolve.specs.declared.kind.Kind.{Kind}
 use Rattle.wv_resolve.specs.declared.kind.Kind.TheVariants as kinds
 use Rattle.wv_resolve.specs.Presence.{Presence, IsAbsent, IsPresent, IsPresentAs}
 use Rattle.wv_resolve.specs.Dependency.{MeetsOne, IsMet, Keeps, Fails}

@@ -1,5 +1,5 @@
 -- Ids that are present twice.
-use Rattle.std.proofs.Common.{◌≡◌, ℕ, ◌+◌, ◌<◌, ◌≤◌, List, [], ◌∷◌, ◌++◌, length, get_or, take, drop, map, flat_map, refl, ap, sym, ◌∙◌, subst, append_assoc}
+use Rattle.std.proofs.Common.{◌≡◌, ℕ, ◌+◌, ◌<◌, ◌≤◌, List, [], ◌∷◌, ◌++◌, length, get_or, take, drop, map, refl, ap, sym, ◌∙◌, append_assoc}
 use Rattle.std.proofs.lemmas.List.{map-append, take_all, take-append-drop}
 use Rattle.wv_base.specs.declared.broken.Broken.{Broken}
 use Rattle.wv_mod.specs.declared.fault.ModFault.{ModFault}
@@ -8,7 +8,7 @@ use Rattle.wv_resolve.specs.Presence.{Presence, IsPresent, AreDistinct}
 use Rattle.wv_resolve.specs.declared.source.Source.{Source}
 use Rattle.wv_resolve.specs.Holding.{source_presence, source_presences}
 use Rattle.wv_resolve.specs.Refusal.{IsTwiceBroken, IsBrokenFault, twice_broken}
-use Rattle.wv_resolve.proofs.Lists.{front-more, flat-cut}
+use Rattle.wv_resolve.proofs.Lists.{front-more}
 
 -- the id of the last is present before it
 pub twice-last : (list : List Presence) (p : Presence) (broken : Broken) → AreDistinct list → IsPresent list p.id → broken ≡ twice_broken p → IsTwiceBroken (list ++ p ∷ []) broken

@@ -1,5 +1,5 @@
 -- What a table of ids holds of a list of what is present.
-use Rattle.std.specs.Prelude.{◌≡◌, ℕ, List, ◌∷◌, map, flat_map, Option, MatchOption}
+use Rattle.std.specs.Prelude.{ℕ, List, ◌∷◌, map, Option, MatchOption}
 use Rattle.std.specs.Borrow.{Bor}
 use Rattle.std.specs.BTreeMap.{get}
 use Rattle.std.specs.Cmp.Lexicographic.{slice_cmp}

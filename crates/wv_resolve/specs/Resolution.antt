@@ -6,12 +6,11 @@ use Rattle.std.specs.Cmp.Lexicographic.{slice_cmp}
 use Rattle.std.specs.Ordering.{nat_cmp}
 use Rattle.wv_base.specs.declared.broken.Broken.{Broken}
 use Rattle.wv_mod.specs.declared.mod_info.ModInfo.{ModInfo}
-use Rattle.wv_mod.specs.declared.fault.ModFault.{ModFault}
 use Rattle.wv_resolve.specs.declared.kind.Kind.{Kind}
 use Rattle.wv_resolve.specs.declared.kind.Kind.TheVariants.{Depends, Breaks}
 use Rattle.wv_resolve.specs.Presence.{present_ids, AreDistinct}
 use Rattle.wv_resolve.specs.Dependency.{Keeps, all_entries}
-use Rattle.wv_resolve.specs.Refusal.{IsTwiceBroken, IsEntryBroken, IsBrokenFault}
+use Rattle.wv_resolve.specs.Refusal.{IsTwiceBroken, IsEntryBroken}
 
 abbrev pub is_loaded : ModInfo → Bool
 is_loaded info = info.loaded

@@ -1,6 +1,3 @@
-use Rattle.std.proofs.Common.{subst}
-use Rattle.std.specs.List.{AllByRecursion}
-use Rattle.std.proofs.lemmas.List.{take_all}
 use Rattle.wv_resolve.specs.Dependency.{Keeps, Fails}
 use Rattle.wv_resolve.proofs.Lists.{each-more}
 use Rattle.wv_resolve.proofs.Entries.{first-at, kept-at-true, fails-at-false, all-looked-at}

@@ -1,4 +1,4 @@
-use Rattle.std.proofs.Common.{◌≡◌, ◌++◌, take, codes, string_bytes}
+use Rattle.std.proofs.Common.{◌≡◌, ◌++◌, take, string_bytes}
 use Rattle.wv_resolve.specs.Refusal.{or_texts}
 use Rattle.wv_resolve.proofs.refusal.wanted.Given as goal
 

@@ -1,6 +1,5 @@
 use Rattle.std.proofs.Common.{◌∙◌, subst, ap, flat_map, List}
 use Rattle.std.proofs.lemmas.Result.{err_from_is_err_and}
-use Rattle.wv_resolve.specs.declared.kind.Kind.TheVariants as kinds
 use Rattle.wv_resolve.specs.Presence.{Presence, present_ids}
 use Rattle.wv_resolve.specs.Holding.{Holds, source_presences}
 use Rattle.wv_resolve.proofs.Fitting.{unfit-twice, unfit-unmet, unfit-met, fits}

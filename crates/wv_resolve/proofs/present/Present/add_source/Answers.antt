@@ -1,4 +1,4 @@
-use Rattle.std.proofs.Common.{◌≡◌, ℕ, List, [], ◌∷◌, ◌++◌, ◌+◌, ◌∙◌, subst, sym, ap, drop, take, map, append_assoc}
+use Rattle.std.proofs.Common.{List, ◌++◌, ◌+◌, subst, sym, drop, map}
 use Rattle.std.proofs.lemmas.Result.{err_from_is_err_and}
 use Rattle.wv_resolve.specs.Presence.{Presence}
 use Rattle.wv_resolve.specs.Holding.{Holds, source_presence, source_presences}

@@ -1,4 +1,4 @@
-use Rattle.std.proofs.Common.{◌∙◌, subst, sym, drop, take, flat_map, List, ◌+◌}
+use Rattle.std.proofs.Common.{subst, sym, drop, take, flat_map, List, ◌+◌}
 use Rattle.std.proofs.lemmas.Result.{err_from_is_err_and}
 use Rattle.wv_resolve.specs.Presence.{Presence}
 use Rattle.wv_resolve.specs.Holding.{Holds, source_presences}
