@@ -11,7 +11,8 @@ use Rattle.wv_resolve.specs.declared.kind.Kind.{Kind}
 use Rattle.wv_resolve.specs.Presence.{Presence}
 use Rattle.wv_resolve.specs.Dependency.{Keeps, Fails, entries_of, mod_entries, all_entries, rule_of}
 use Rattle.wv_resolve.specs.Refusal.{IsFirst, IsFound, IsRefused, IsEntryBroken, broken_at, wanted_text}
-use Rattle.wv_resolve.proofs.Lists.{cut-at, each-append, each-map, flat-more, flat-cut}
+use Rattle.wv_mod.proofs.Relating.{cut-at}
+use Rattle.wv_resolve.proofs.Lists.{each-append, each-map, flat-more, flat-cut}
 
 -- the entry at a place fails, and those before it are kept
 pub first-at : {A : Type 0} (Before Here : A → Type 0) (list : List A) (i : ℕ) (x : A) → i < length list → x ≡ get_or list i x → AllByRecursion Before (take i list) → Here x → IsFirst Before Here list x

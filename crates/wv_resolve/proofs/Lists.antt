@@ -1,18 +1,10 @@
 -- Lists that are gone over in turn.
-use Rattle.std.proofs.Common.{◌≡◌, inl, inr, ℕ, ◌+◌, ◌<◌, List, [], ◌∷◌, ◌++◌, length, get_or, take, drop, map, flat_map, Any, AllPairs, Option, Some, None, MatchOption, ap, sym, ◌∙◌, subst, add-one, arith, length-append}
+use Rattle.std.proofs.Common.{◌≡◌, inl, inr, ℕ, ◌+◌, ◌<◌, List, [], ◌∷◌, ◌++◌, length, get_or, take, drop, map, flat_map, Any, AllPairs, Option, Some, None, MatchOption, ap, sym, ◌∙◌, subst, arith, length-append}
 use Rattle.std.specs.List.{AllByRecursion}
 use Rattle.std.proofs.lemmas.Bool.{cases_order}
 use Rattle.std.proofs.lemmas.Grind.{flat_map-append}
 use Rattle.std.proofs.lemmas.List.{take_more, take-append-drop, get_or_default, get_or_append_left, append-nil}
 use Rattle.std.proofs.lemmas.List.Concat.{flat_map-cons}
-use Rattle.std.proofs.Math.Seq.{drop-cons}
-
--- a list is what stands before a place, what stands at it and what stands behind
-piece : {A : Type 0} (list : List A) (i : ℕ) (x : A) → i < length list → take i list ++ drop i list ≡ take i list ++ (get_or list i x ∷ drop (i + 1) list)
-piece list i x inside = rw (add-one, drop-cons list i x)
-
-pub cut-at : {A : Type 0} (list : List A) (i : ℕ) (x : A) → i < length list → x ≡ get_or list i x → list ≡ take i list ++ x ∷ drop (i + 1) list
-cut-at list i x inside at = sym (take-append-drop i list) ∙ piece list i x inside ∙ ap (λ w. take i list ++ w ∷ drop (i + 1) list) (sym at)
 
 -- one more of the front
 pub front-more : {A : Type 0} (list : List A) (i : ℕ) (x : A) → i < length list → x ≡ get_or list i x → take (i + 1) list ≡ take i list ++ x ∷ []

@@ -1,4 +1,4 @@
--- Entries of `depends` and `breaks` (fabric.mod.json, schema version 1).
+-- Entries of `depends` and `breaks`, and whether they are met (fabric.mod.json, schema version 1).
 use Rattle.std.specs.Prelude.{◌≡◌, ℕ, List, map, flat_map, Any}
 use Rattle.wv_base.specs.declared.rule.Rule.{Rule}
 use Rattle.wv_base.specs.declared.rule.Rule.TheVariants.{DependsUnmet, BreaksMet}
@@ -28,7 +28,7 @@ abbrev pub Keeps : Kind → List Presence → Dependency → Type 0
 Keeps Depends present dependency = IsMet present dependency
 Keeps Breaks present dependency = IsMet present dependency → ⊥
 
--- the other way round
+-- an entry that doesn't keep what it asks
 abbrev pub Fails : Kind → List Presence → Dependency → Type 0
 Fails Depends present dependency = IsMet present dependency → ⊥
 Fails Breaks present dependency = IsMet present dependency
@@ -43,9 +43,10 @@ abbrev pub rule_of : Kind → Rule
 rule_of Depends = DependsUnmet
 rule_of Breaks = BreaksMet
 
--- the entries of the mods in turn, each with the path of its mod
+-- the entries of a mod, each with the mod's path
 abbrev pub mod_entries : Kind → ModInfo → List (List ℕ × Dependency)
 mod_entries kind info = map (λ dependency. (info.path, dependency)) (entries_of kind info)
 
+-- the entries of the mods in turn
 abbrev pub all_entries : Kind → List ModInfo → List (List ℕ × Dependency)
 all_entries kind mods = flat_map (mod_entries kind) mods

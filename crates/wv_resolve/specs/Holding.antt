@@ -13,6 +13,7 @@ use Rattle.wv_resolve.specs.Presence.{Presence, IsAbsent, IsPresentAs, AreDistin
 abbrev pub source_presence : Source → List ℕ → Presence
 source_presence source id = record { path = source.path.now; id = id; version = source.text.now }
 
+-- what a source is present as: its own id, then those that it provides
 abbrev pub source_presences : Source → List Presence
 source_presences source = map (source_presence source) (source.id.now ∷ source.provides.now)
 

@@ -12,16 +12,19 @@ use Rattle.wv_resolve.specs.Presence.{present_ids, AreDistinct}
 use Rattle.wv_resolve.specs.Dependency.{Keeps, all_entries}
 use Rattle.wv_resolve.specs.Refusal.{IsTwiceBroken, IsEntryBroken}
 
+-- the mod's environment is that of the side
 abbrev pub is_loaded : ModInfo → Bool
 is_loaded info = info.loaded
 
+-- the path of the mod's description
 abbrev pub path_of : ModInfo → List ℕ
 path_of info = info.path
 
+-- the mod's own id
 abbrev pub id_of : ModInfo → List ℕ
 id_of info = info.id
 
--- a list in the order of the bytes of a key; what has the same key stays as it stood
+-- the list, ordered by the bytes of a key; what has the same key stays as it stood
 pub record IsOrderedBy {A : Type 0} (key : A → List ℕ) (list sorted : List A) : Type 0 where
   pub same : IsPermutation list sorted
   pub ordered : IsSortedByKey key (slice_cmp nat_cmp) sorted
@@ -41,7 +44,7 @@ pub record AreFitting (builtin : List (List ℕ × List ℕ)) (loaded : List Mod
   pub depends : AllKeep Depends builtin loaded
   pub breaks : AllKeep Breaks builtin loaded
 
--- an entry of one kind is the first that fails
+-- an entry is the first of its kind that fails
 abbrev pub IsUnkept : Kind → List (List ℕ × List ℕ) → List ModInfo → Broken → Type 0
 IsUnkept kind builtin loaded broken = IsEntryBroken kind (present_ids builtin loaded) (all_entries kind loaded) broken
 

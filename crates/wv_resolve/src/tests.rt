@@ -147,7 +147,7 @@ fn what_breaks_a_rule(rt: HostRuntime) -> Result<(), Fail> {
             alpha,
             (
                 "beta",
-                r#""id":"beta","version":"1","provides":["other","lib","alpha"]"#,
+                r#""id":"beta","version":"1","provides":["other","lib","alpha"],"breaks":{"game":"*"}"#,
             ),
             "15 DuplicateId at mods/beta/fabric.mod.json wanted - found lib",
         ),
