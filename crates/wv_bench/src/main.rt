@@ -2,6 +2,7 @@
 #![tactic(auto)]
 
 mod pool;
+mod resolve;
 
 use anyhow::Result;
 use std::env;
@@ -13,6 +14,7 @@ fn main(rt: HostRuntime) -> Result<()> {
     let words = env::args(&rt)?.collect::<Vec<String>>(rt.alloc())?;
     match words.as_slice() {
         [_, what] if what.as_str() == "pool" => pool::time(&rt, ROUNDS),
-        _ => Ok(println!(rt; "usage: wv_bench pool")?),
+        [_, what] if what.as_str() == "resolve" => resolve::time(&rt, ROUNDS),
+        _ => Ok(println!(rt; "usage: wv_bench pool|resolve")?),
     }
 }

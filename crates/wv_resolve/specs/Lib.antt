@@ -1,0 +1,5 @@
+pub mod Presence
+pub mod Dependency
+pub mod Refusal
+pub mod Resolution
+pub mod Holding
