@@ -1,13 +1,16 @@
 -- What the calls that read a StackMapTable answer.
-use Rattle.std.specs.Prelude.{◌≡◌, ℕ, List, Result, Ok, Err}
+use Rattle.std.specs.Prelude.{◌≡◌, ℕ, List, Option, None, Result, Ok, Err}
 use Rattle.wv_base.specs.declared.fault.ClassFault.{ClassFault}
 use Rattle.wv_base.specs.declared.fault.ClassFault.TheVariants as faults
 use Rattle.wv_base.specs.declared.class_file.PoolEntry.{PoolEntry}
 use Rattle.wv_base.specs.declared.frame.Frame.{Frame}
+use Rattle.wv_base.specs.declared.frame.VType.{VType}
+use Rattle.wv_frames.specs.declared.raw.RawType.{RawType}
 use Rattle.wv_frames.specs.declared.raw.RawFrame.{RawFrame}
 use Rattle.wv_frames.specs.Spelling.{table_bytes, IsLayout}
 use Rattle.wv_frames.specs.Layout.{IsLayoutFault}
-use Rattle.wv_frames.specs.References.{FirstBreaks}
+use Rattle.wv_frames.specs.Whole.{type_of}
+use Rattle.wv_frames.specs.References.{TypesBreak, BreaksAt, FirstBreaks}
 
 -- the answer is these frames, unless memory ran out
 abbrev pub GivesFrames : {A : Type 0} → Result A ClassFault → A → Type 0
@@ -28,6 +31,24 @@ abbrev pub LayoutBreaks : List ℕ → ClassFault → Type 0
 LayoutBreaks bytes faults.Memory = Unit {0}
 LayoutBreaks bytes (faults.Layout at) = IsLayoutFault bytes at
 LayoutBreaks bytes (faults.Reference at) = ⊥
+
+-- the cause of a fault of a type whose number stands at the place
+abbrev pub TypeBreaks : List PoolEntry → RawType → ℕ → ClassFault → Type 0
+TypeBreaks pool raw at faults.Memory = Unit {0}
+TypeBreaks pool raw at (faults.Layout place) = ⊥
+TypeBreaks pool raw at (faults.Reference place) = (type_of pool raw ≡ None) × (place ≡ at)
+
+-- the cause of a fault of types whose bytes begin at base
+abbrev pub TypesBreakFrom : List PoolEntry → List RawType → ℕ → ClassFault → Type 0
+TypesBreakFrom pool raw base faults.Memory = Unit {0}
+TypesBreakFrom pool raw base (faults.Layout at) = ⊥
+TypesBreakFrom pool raw base (faults.Reference at) = TypesBreak pool raw base at
+
+-- the cause of a fault of a frame behind one with these locals
+abbrev pub FrameBreaks : List PoolEntry → List VType → RawFrame → ClassFault → Type 0
+FrameBreaks pool locals raw faults.Memory = Unit {0}
+FrameBreaks pool locals raw (faults.Layout at) = ⊥
+FrameBreaks pool locals raw (faults.Reference at) = BreaksAt pool locals raw at
 
 -- the cause of a fault of frames that have a layout
 abbrev pub ReferencesBreak : List PoolEntry → Frame → List RawFrame → ClassFault → Type 0

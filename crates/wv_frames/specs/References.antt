@@ -9,7 +9,7 @@ use Rattle.wv_frames.specs.declared.raw.RawType.{RawType}
 use Rattle.wv_frames.specs.declared.raw.RawFrame.{RawFrame}
 use Rattle.wv_frames.specs.declared.raw.RawFrame.TheVariants as frames
 use Rattle.wv_frames.specs.Spelling.{type_bytes, frame_bytes}
-use Rattle.wv_frames.specs.Whole.{type_of, types_of, frames_from}
+use Rattle.wv_frames.specs.Whole.{type_of, types_of, frames_from, locals_behind}
 
 -- the first of the types, which begin at base, that names no class, and the place of its number behind its tag
 pub record TypesBreak (pool : List PoolEntry) (all : List RawType) (base at : ℕ) : Type 0 where
@@ -31,11 +31,6 @@ BreaksAt pool locals (frames.SameExtended delta) at = ⊥
 BreaksAt pool locals (frames.Append delta more) at = TypesBreak pool more 3 at
 BreaksAt pool locals (frames.Full delta all stack) at =
     TypesBreak pool all 5 at ⊎ (IsSome (types_of pool all) × TypesBreak pool stack (7 + length (flat_map type_bytes all)) at)
-
--- the locals behind the frames
-abbrev pub locals_behind : List VType → List FrameAt → List VType
-locals_behind locals [] = locals
-locals_behind locals (one ∷ others) = locals_behind one.frame.locals others
 
 -- the first frame that breaks what its fields must meet, and the place of the field, from the count on
 pub record FirstBreaks (pool : List PoolEntry) (first : Frame) (all : List RawFrame) (at : ℕ) : Type 0 where

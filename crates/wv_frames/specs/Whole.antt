@@ -63,6 +63,11 @@ frames_from pool next locals [] = Some []
 frames_from pool next locals (raw ∷ others) =
     option_and_then (λ frame. option_map (λ rest. record { at = next + delta_of raw; frame = frame } ∷ rest) (frames_from pool (next + delta_of raw + 1) frame.locals others)) (frame_after pool locals raw)
 
+-- the locals of the last frame, or those before the first
+abbrev pub locals_behind : List VType → List FrameAt → List VType
+locals_behind locals [] = locals
+locals_behind locals (one ∷ others) = locals_behind one.frame.locals others
+
 -- the content of a StackMapTable that has these frames, in a method with this start frame
 pub record Spells (pool : List PoolEntry) (first : Frame) (bytes : List ℕ) (all : List FrameAt) : Type 0 where
   pub raw : List RawFrame

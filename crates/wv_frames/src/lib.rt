@@ -1,6 +1,7 @@
 //! StackMapTables (JVM Specification 4.7.4).
 #![tactic(auto)]
 
+mod adding;
 mod layout;
 mod raw;
 mod reading;
@@ -8,10 +9,15 @@ mod room;
 mod stop;
 mod tag;
 mod whole;
+mod writing;
 
+pub use adding::write_frames;
 pub use raw::{RawFrame, RawType, RawTypes};
 pub use reading::{read_frames, read_layout};
 pub use whole::whole_frames;
 
 
 
+
+#[cfg(test)]
+mod tests;
