@@ -44,11 +44,11 @@ TypesBreakFrom pool raw base faults.Memory = Unit {0}
 TypesBreakFrom pool raw base (faults.Layout at) = ⊥
 TypesBreakFrom pool raw base (faults.Reference at) = TypesBreak pool raw base at
 
--- the cause of a fault of a frame behind one with these locals
-abbrev pub FrameBreaks : List PoolEntry → List VType → RawFrame → ClassFault → Type 0
-FrameBreaks pool locals raw faults.Memory = Unit {0}
-FrameBreaks pool locals raw (faults.Layout at) = ⊥
-FrameBreaks pool locals raw (faults.Reference at) = BreaksAt pool locals raw at
+-- the cause of a fault of a frame that begins at base, behind one with these locals
+abbrev pub FrameBreaks : List PoolEntry → List VType → RawFrame → ℕ → ClassFault → Type 0
+FrameBreaks pool locals raw base faults.Memory = Unit {0}
+FrameBreaks pool locals raw base (faults.Layout at) = ⊥
+FrameBreaks pool locals raw base (faults.Reference at) = BreaksAt pool locals raw base at
 
 -- the cause of a fault of frames that have a layout
 abbrev pub ReferencesBreak : List PoolEntry → Frame → List RawFrame → ClassFault → Type 0

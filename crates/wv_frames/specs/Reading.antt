@@ -40,27 +40,30 @@ abbrev pub only_frames : ℕ → Frames
 only_frames left = record { bytes = 0; types = 0; lists = 0; frames = left }
 
 -- a tag with a meaning behind which what is to come fits
+abbrev pub tag_found : {A : Type 0} → (A → Frames) → List ℕ → Option A → Result (A × List ℕ) ℕ
+tag_found to_come rest None = Err (suc (length rest))
+tag_found to_come rest (Some tag) = if fits_in (to_come tag) (length rest) then Ok (tag, rest) else Err (suc (length rest))
+
 unfoldable pub tag_at : {A : Type 0} → (ℕ → Option A) → (A → Frames) → List ℕ → Result (A × List ℕ) ℕ
 tag_at meaning to_come [] = Err 0
-tag_at {A} meaning to_come (byte ∷ rest) = found (meaning byte)
-  where
-    found : Option A → Result (A × List ℕ) ℕ
-    found None = Err (suc (length rest))
-    found (Some tag) = if fits_in (to_come tag) (length rest) then Ok (tag, rest) else Err (suc (length rest))
+tag_at meaning to_come (byte ∷ rest) = tag_found to_come rest (meaning byte)
 
 -- some number below passes the test
 unfoldable pub some_below : ℕ → (ℕ → Bool) → Bool
 some_below zero test = false
 some_below (suc n) test = if test n then true else some_below n test
 
--- a count of items that fit besides what else is to come; its first byte begins one
+-- whether so many items fit, besides what else is to come
+abbrev pub count_fits : FrameKind → Frames → ℕ → ℕ → Bool
+count_fits kind besides room n = fits_in (frames_with kind n besides) room
+
+-- a count of items that fit; its first byte begins one
 unfoldable pub count_at : FrameKind → Frames → List ℕ → Result (ℕ × List ℕ) ℕ
 count_at kind besides [] = Err 0
 count_at kind besides (high ∷ []) = Err 1
 count_at kind besides (high ∷ low ∷ rest) =
-    let test = λ n. fits_in (frames_with kind n besides) (length rest) in
-    if some_below 256 (λ k. test (high * 256 + k))
-    then (if test (high * 256 + low) then Ok (high * 256 + low, rest) else Err (suc (length rest)))
+    if some_below 256 (λ k. count_fits kind besides (length rest) (high * 256 + k))
+    then (if count_fits kind besides (length rest) (high * 256 + low) then Ok (high * 256 + low, rest) else Err (suc (length rest)))
     else Err (suc (suc (length rest)))
 
 -- the tag of a type
@@ -98,13 +101,20 @@ type_at behind bytes = do
   tag ← tag_at type_tag (behind_type_tag behind) bytes
   type_behind tag.0 tag.1
 
--- so many types
-unfoldable pub types_in : ℕ → Frames → List ℕ → Result (List RawType × List ℕ) ℕ
-types_in zero behind bytes = Ok ([], bytes)
-types_in (suc n) behind bytes = do
-  one ← type_at (record behind { types = n }) bytes
-  others ← types_in n behind one.1
-  Ok (one.0 ∷ others.0, others.1)
+-- so many items, each read by how many more are to come
+unfoldable pub items_in : {A : Type 0} → (ℕ → List ℕ → Result (A × List ℕ) ℕ) → ℕ → List ℕ → Result (List A × List ℕ) ℕ
+items_in one zero bytes = Ok ([], bytes)
+items_in one (suc n) bytes = do
+  item ← one n bytes
+  others ← items_in one n item.1
+  Ok (item.0 ∷ others.0, others.1)
+
+-- so many types, behind which this is to come
+abbrev pub one_type : Frames → ℕ → List ℕ → Result (RawType × List ℕ) ℕ
+one_type behind left bytes = type_at (record behind { types = left }) bytes
+
+abbrev pub types_in : ℕ → Frames → List ℕ → Result (List RawType × List ℕ) ℕ
+types_in count behind bytes = items_in (one_type behind) count bytes
 
 -- a list of types with its count
 unfoldable pub list_at : Frames → List ℕ → Result (List RawType × List ℕ) ℕ
@@ -171,12 +181,8 @@ frame_at left bytes = do
   frame_behind left tag.0 tag.1
 
 -- so many frames
-unfoldable pub frames_in : ℕ → List ℕ → Result (List RawFrame × List ℕ) ℕ
-frames_in zero bytes = Ok ([], bytes)
-frames_in (suc n) bytes = do
-  one ← frame_at n bytes
-  others ← frames_in n one.1
-  Ok (one.0 ∷ others.0, others.1)
+abbrev pub frames_in : ℕ → List ℕ → Result (List RawFrame × List ℕ) ℕ
+frames_in count bytes = items_in frame_at count bytes
 
 -- the count and the frames
 unfoldable pub table_at : List ℕ → Result (List RawFrame × List ℕ) ℕ

@@ -21,16 +21,16 @@ pub record TypesBreak (pool : List PoolEntry) (all : List RawType) (base at : �
   pub unnamed : type_of pool broken ≡ None
   pub place : at ≡ base + length (flat_map type_bytes before) + 1
 
--- the place in a frame, from its tag on, of the first field that breaks what it must meet
-abbrev pub BreaksAt : List PoolEntry → List VType → RawFrame → ℕ → Type 0
-BreaksAt pool locals (frames.Same delta) at = ⊥
-BreaksAt pool locals (frames.SameWithOne delta stack) at = TypesBreak pool (stack ∷ []) 1 at
-BreaksAt pool locals (frames.SameWithOneExtended delta stack) at = TypesBreak pool (stack ∷ []) 3 at
-BreaksAt pool locals (frames.Chop count delta) at = (at ≡ 0) × (length locals < count)
-BreaksAt pool locals (frames.SameExtended delta) at = ⊥
-BreaksAt pool locals (frames.Append delta more) at = TypesBreak pool more 3 at
-BreaksAt pool locals (frames.Full delta all stack) at =
-    TypesBreak pool all 5 at ⊎ (IsSome (types_of pool all) × TypesBreak pool stack (7 + length (flat_map type_bytes all)) at)
+-- the place of the first field that breaks what it must meet, in a frame that begins at base
+abbrev pub BreaksAt : List PoolEntry → List VType → RawFrame → ℕ → ℕ → Type 0
+BreaksAt pool locals (frames.Same delta) base at = ⊥
+BreaksAt pool locals (frames.SameWithOne delta stack) base at = TypesBreak pool (stack ∷ []) (base + 1) at
+BreaksAt pool locals (frames.SameWithOneExtended delta stack) base at = TypesBreak pool (stack ∷ []) (base + 3) at
+BreaksAt pool locals (frames.Chop count delta) base at = (at ≡ base) × (length locals < count)
+BreaksAt pool locals (frames.SameExtended delta) base at = ⊥
+BreaksAt pool locals (frames.Append delta more) base at = TypesBreak pool more (base + 3) at
+BreaksAt pool locals (frames.Full delta all stack) base at =
+    TypesBreak pool all (base + 5) at ⊎ (IsSome (types_of pool all) × TypesBreak pool stack (base + 7 + length (flat_map type_bytes all)) at)
 
 -- the first frame that breaks what its fields must meet, and the place of the field, from the count on
 pub record FirstBreaks (pool : List PoolEntry) (first : Frame) (all : List RawFrame) (at : ℕ) : Type 0 where
@@ -40,6 +40,4 @@ pub record FirstBreaks (pool : List PoolEntry) (first : Frame) (all : List RawFr
   pub parts : all ≡ before ++ broken ∷ after
   pub frames : List FrameAt
   pub whole : frames_from pool 0 first.locals before ≡ Some frames
-  pub field : ℕ
-  pub breaks : BreaksAt pool (locals_behind first.locals frames) broken field
-  pub place : at ≡ 2 + length (flat_map frame_bytes before) + field
+  pub breaks : BreaksAt pool (locals_behind first.locals frames) broken (2 + length (flat_map frame_bytes before)) at

@@ -1,5 +1,5 @@
 //! Whole frames, each from its spelling and the frame before.
-ghost use Rattle.std.specs.Prelude.{◌≡◌, ◌+◌, ◌<◌, ◌≤◌, ◌*◌, ◌∷◌, [], length, IsTrue, IfOk, IfErr, IfSome, IfNone, Some, None};
+ghost use Rattle.std.specs.Prelude.{◌≡◌, ◌+◌, ◌<◌, ◌≤◌, ◌*◌, ◌^◌, ◌∷◌, [], length, IsTrue, IfOk, IfErr, IfSome, IfNone, Some, None};
 ghost use Rattle.std.specs.List.{list_any, flat_map};
 ghost use Rattle.wv_base.specs.declared.fault.ClassFault.TheVariants as faults;
 ghost use Rattle.wv_frames.specs.Spelling.{type_bytes, frame_bytes, IsFrame, IsLayout};
@@ -14,7 +14,8 @@ use wv_pool::Pool;
 
 /// How many bytes a type takes.
 fn type_len(raw: RawType) -> usize
-    ensures { result ≡ length (type_bytes raw) }
+    ensures len { result ≡ length (type_bytes raw) }
+    ensures small { result ≤ 3 }
 {
     match raw {
         RawType::Object(_) | RawType::Uninitialized(_) => 3,
@@ -81,7 +82,7 @@ fn whole_types(
     base: usize,
 ) -> Result<Items<VType>, ClassFault>
     requires few { length raw.now < 65536 }
-    requires low { base < 1000000 }
+    requires low { base < 2 ^ 40 }
     ensures found { IfOk result (λ types. types_of pool.now raw.now ≡ Some types) }
     ensures fault { IfErr result (TypesBreakFrom pool.now raw.now base) }
 {
@@ -106,17 +107,20 @@ fn first_locals(alloc: Global, locals: &[VType]) -> Result<Items<VType>, ClassFa
     Ok(copy)
 }
 
-fn is_this(local: &VType) -> bool
-    ensures { result ≡ is_this local.now }
+/// Whether a local is `this` before its initialization.
+fn has_this(locals: &[VType]) -> bool
+    ensures { result ≡ list_any is_this locals.now }
 {
-    matches!(local, VType::UninitializedThis)
+    locals
+        .iter()
+        .any(|local| matches!(local, VType::UninitializedThis))
 }
 
 /// The frame with these locals and this stack.
 fn frame_of(locals: Items<VType>, stack: Items<VType>) -> Frame
     ensures { result ≡ frame_of locals stack }
 {
-    let this_uninitialized = locals.as_slice().iter().any(|local| is_this(local));
+    let this_uninitialized = has_this(locals.as_slice());
     Frame {
         locals,
         stack,
@@ -132,7 +136,7 @@ fn frame_with_one(
     pool: &Pool,
     base: usize,
 ) -> Result<Frame, ClassFault>
-    requires { base < 1000000 }
+    requires { base < 2 ^ 40 }
     ensures found { IfOk result (λ frame. types_of pool.now (stack ∷ []) ≡ Some frame.stack × (frame ≡ frame_of locals.now frame.stack)) }
     ensures fault { IfErr result (TypesBreakFrom pool.now (stack ∷ []) base) }
 {
@@ -140,29 +144,30 @@ fn frame_with_one(
     Ok(frame_of(first_locals(alloc, locals)?, stack))
 }
 
-/// The frame that is spelled so behind one with these locals. The place of a fault counts from the
-/// frame's tag.
+/// The frame that is spelled so from `base` on, behind one with these locals.
 fn frame_after(
     alloc: Global,
     locals: &[VType],
     raw: &RawFrame,
     pool: &Pool,
+    base: usize,
 ) -> Result<Frame, ClassFault>
-    requires { IsFrame raw.now }
+    requires frame { IsFrame raw.now }
+    requires low { base < 2 ^ 36 }
     ensures found { IfOk result (λ frame. frame_after pool.now locals.now raw.now ≡ Some frame) }
-    ensures fault { IfErr result (FrameBreaks pool.now locals.now raw.now) }
+    ensures fault { IfErr result (FrameBreaks pool.now locals.now raw.now base) }
 {
     match raw {
         RawFrame::Same { .. } | RawFrame::SameExtended { .. } => {
             Ok(frame_of(first_locals(alloc, locals)?, Items::new(alloc)))
         }
-        RawFrame::SameWithOne { stack, .. } => frame_with_one(alloc, locals, *stack, pool, 1),
+        RawFrame::SameWithOne { stack, .. } => frame_with_one(alloc, locals, *stack, pool, base + 1),
         RawFrame::SameWithOneExtended { stack, .. } => {
-            frame_with_one(alloc, locals, *stack, pool, 3)
+            frame_with_one(alloc, locals, *stack, pool, base + 3)
         }
         RawFrame::Chop { count, .. } => {
             let Some(left) = locals.len().checked_sub(usize::from(*count)) else {
-                return Err(ClassFault::Reference { at: 0 });
+                return Err(ClassFault::Reference { at: base });
             };
             Ok(frame_of(
                 first_locals(alloc, &locals[..left])?,
@@ -170,7 +175,7 @@ fn frame_after(
             ))
         }
         RawFrame::Append { locals: more, .. } => {
-            let last = whole_types(alloc, more.as_slice(), pool, 3)?;
+            let last = whole_types(alloc, more.as_slice(), pool, base + 3)?;
             let mut all = first_locals(alloc, locals)?;
             all.append(last)?;
             Ok(frame_of(all, Items::new(alloc)))
@@ -178,11 +183,11 @@ fn frame_after(
         RawFrame::Full {
             locals: all, stack, ..
         } => {
-            let first = whole_types(alloc, all.as_slice(), pool, 5)?;
-            let base = 7 + types_len(all.as_slice());
+            let first = whole_types(alloc, all.as_slice(), pool, base + 5)?;
+            let behind = base + 7 + types_len(all.as_slice());
             Ok(frame_of(
                 first,
-                whole_types(alloc, stack.as_slice(), pool, base)?,
+                whole_types(alloc, stack.as_slice(), pool, behind)?,
             ))
         }
     }
@@ -228,13 +233,7 @@ pub fn whole_frames(
     let mut place = 2;
     let mut next: u32 = 0;
     for one in raw {
-        let frame = match frame_after(alloc, locals_behind(&frames, first), one, pool) {
-            Ok(frame) => frame,
-            Err(ClassFault::Reference { at }) => {
-                return Err(ClassFault::Reference { at: place + at });
-            }
-            Err(_) => return Err(ClassFault::Memory),
-        };
+        let frame = frame_after(alloc, locals_behind(&frames, first), one, pool, place)?;
         let at = next + u32::from(delta_of(one));
         frames.push(FrameAt { at, frame })?;
         next = at + 1;
