@@ -1,6 +1,6 @@
 -- What a pool becomes by several additions, one after the other.
-use Rattle.std.proofs.Common.{◌≡◌, ℕ, ◌+◌, ◌<◌, List, [], ◌∷◌, ◌++◌, length, Option, Some, None, Result, Ok, Err, refl, sym, ap, subst, ◌∙◌, ◌⊎◌, inl, inr, arith, append_assoc}
-use Rattle.std.specs.List.{AllByRecursion}
+use Rattle.std.proofs.Common.{◌≡◌, ℕ, ◌+◌, ◌<◌, Bool, List, [], ◌∷◌, ◌++◌, length, Option, Some, None, Result, Ok, Err, refl, sym, ap, subst, ◌∙◌, ◌⊎◌, inl, inr, arith, append_assoc}
+use Rattle.std.specs.List.{AllByRecursion, list_any}
 use Rattle.std.specs.Option.{option_map, option_and_then}
 use Rattle.std.proofs.lemmas.List.{append-nil, length-append}
 use Rattle.wv_base.specs.declared.class_file.PoolEntry.{PoolEntry}
@@ -22,7 +22,7 @@ use Rattle.wv_frames.specs.declared.raw.RawType.{RawType}
 use Rattle.wv_frames.specs.declared.raw.RawType.TheVariants as types
 use Rattle.wv_frames.specs.declared.raw.RawFrame.{RawFrame}
 use Rattle.wv_frames.specs.declared.raw.RawFrame.TheVariants as frames
-use Rattle.wv_frames.specs.Whole.{type_of, types_of, frame_of, frame_after, delta_of, frames_from}
+use Rattle.wv_frames.specs.Whole.{type_of, types_of, is_this, frame_of, frame_after, delta_of, frames_from}
 use Rattle.wv_frames.specs.Writing.{type_needs, types_need, frame_needs, frames_need}
 
 -- ---- additions
@@ -121,7 +121,7 @@ class_added old new name same (inl there) = subst (λ (p : List PoolEntry). Grow
   more = [];
   longer = sym (append-nil old);
   lacks = named there (named (name_named old name there) none);
-  all = (there, name_named old name there, tt);
+  all = (there, (name_named old name there, tt));
   only = λ c h. inl h;
 })
 class_added old new name same (inr g) = g
@@ -199,3 +199,11 @@ frames_need-more xs x = frames_need-append xs (x ∷ [])
 
 pub frames_need-split : (all before after : List FrameAt) (x : FrameAt) → all ≡ before ++ x ∷ after → frames_need all ≡ frames_need after ++ (frame_needs x.frame ++ frames_need before)
 frames_need-split all before after x e = ap frames_need e ∙ frames_need-append before (x ∷ after) ∙ append_assoc (frames_need after) (frame_needs x.frame) (frames_need before)
+
+-- ---- a full frame
+
+pub full_found : (pool : List PoolEntry) (delta : ℕ) (locals stack : List RawType) (frame : Frame) (before : List VType) → types_of pool locals ≡ Some frame.locals → types_of pool stack ≡ Some frame.stack → frame.this_uninitialized ≡ list_any is_this frame.locals
+    → frame_after pool before (frames.Full delta locals stack) ≡ Some frame
+full_found pool delta locals stack frame before e h flag =
+    ap (option_and_then (λ first. option_map (λ items. frame_of first items) (types_of pool stack))) e ∙ ap (option_map (λ items. frame_of frame.locals items)) h
+    ∙ ap (λ (b : Bool). Some (record { locals = frame.locals; stack = frame.stack; this_uninitialized = b })) (sym flag)

@@ -1,17 +1,16 @@
 -- Whole frames, one after the other, and as a pool grows.
-use Rattle.std.proofs.Common.{◌≡◌, ℕ, zero, suc, ◌+◌, ◌-◌, ◌<◌, ◌≤◌, Bool, true, false, List, [], ◌∷◌, ◌++◌, length, take, get_or, Option, Some, None, refl, sym, ap, ◌∙◌, arith, append_assoc}
-use Rattle.std.specs.Prelude.{slice_get, IsSome, if◌then◌else◌, nat_le}
+use Rattle.std.proofs.Common.{◌≡◌, ℕ, zero, suc, ◌+◌, ◌-◌, ◌^◌, ◌<◌, ◌≤◌, List, [], ◌∷◌, ◌++◌, length, drop, get_or, Option, Some, refl, sym, ap, subst, ◌∙◌, arith}
+use Rattle.std.specs.Prelude.{slice_get}
 use Rattle.std.specs.Option.{option_map, option_and_then}
-use Rattle.std.specs.List.{AllByRecursion}
 use Rattle.wv_base.specs.declared.class_file.PoolEntry.{PoolEntry}
 use Rattle.wv_base.specs.declared.frame.VType.{VType}
-use Rattle.wv_base.specs.declared.frame.VType.TheVariants as vtypes
 use Rattle.wv_base.specs.declared.frame.Frame.{Frame}
 use Rattle.wv_base.specs.declared.frame.FrameAt.{FrameAt}
 use Rattle.wv_pool.proofs.Behind.{some_is, map_some, then_some}
 use Rattle.wv_frames.specs.declared.raw.RawType.{RawType}
 use Rattle.wv_frames.specs.declared.raw.RawFrame.{RawFrame}
 use Rattle.wv_frames.specs.Whole.{type_of, types_of, frame_after, delta_of, frames_from, locals_behind}
+use Rattle.wv_frames.specs.Writing.{AreFrom}
 
 -- ---- the last frame
 
@@ -67,3 +66,12 @@ next_more next (x ∷ all) one = next_more (x.at + 1) all one
 pub locals_more : (locals : List VType) (all : List FrameAt) (one : FrameAt) → locals_behind locals (all ++ one ∷ []) ≡ one.frame.locals
 locals_more locals [] one = refl
 locals_more locals (x ∷ all) one = locals_more x.frame.locals all one
+
+-- what is known of the offsets from an index on
+pub from_more : (all : List FrameAt) (i : ℕ) (one : FrameAt) (next : ℕ) → i < length all → get_or all i one ≡ one → AreFrom next (drop i all) → (next ≤ one.at) × (one.at < 2 ^ 16) × AreFrom (one.at + 1) (drop (i + 1) all)
+from_more [] i one next lt e h = absurd (omega arith)
+from_more (x ∷ all) zero one next lt e h = subst (λ (y : FrameAt). (next ≤ y.at) × (y.at < 2 ^ 16) × AreFrom (y.at + 1) all) e (h.0, h.1, h.3)
+from_more (x ∷ all) (suc i) one next lt e h =
+    let r = from_more all i one next (omega arith) e h in
+    let place : suc i + 1 ≡ suc (i + 1) = omega arith in
+    (r.0, r.1, subst (λ (k : ℕ). AreFrom (one.at + 1) (drop k (x ∷ all))) (sym place) r.2)
