@@ -9,12 +9,14 @@ mod room;
 mod stop;
 mod tag;
 mod whole;
+mod writable;
 mod writing;
 
 pub use adding::write_frames;
 pub use raw::{RawFrame, RawType, RawTypes};
 pub use reading::{read_frames, read_layout};
 pub use whole::whole_frames;
+pub use writable::is_writable;
 
 
 

@@ -166,3 +166,31 @@ fn written_and_read_again(rt: HostRuntime) -> Result<(), Fail> {
     assert_eq!(rt; empty.entries().len(), 4);
     Ok(())
 }
+
+#[test]
+fn what_can_be_written(rt: HostRuntime) -> Result<(), Fail> {
+    let alloc = rt.alloc();
+    let frames = read_frames(alloc, &EACH, &pool(alloc)?, &first(alloc)?)?;
+    assert!(rt; is_writable(&frames)?);
+    for (at, flag, name, want) in [
+        (0, false, "A", true),
+        (65536, false, "A", false),
+        (0, true, "A", false),
+        (0, false, "a.b", false),
+    ] {
+        let mut locals = Items::new(alloc);
+        locals.push(VType::Class(Name::from_ascii(alloc, name)?))?;
+        let frame = Frame {
+            locals,
+            stack: Items::new(alloc),
+            this_uninitialized: flag,
+        };
+        let mut list = Items::new(alloc);
+        list.push(FrameAt { at, frame })?;
+        assert_eq!(rt; is_writable(&list)?, want, "{at} {flag} {name}");
+    }
+    let mut twice = read_frames(alloc, &EACH, &pool(alloc)?, &first(alloc)?)?;
+    twice.append(frames)?;
+    assert!(rt; !is_writable(&twice)?);
+    Ok(())
+}

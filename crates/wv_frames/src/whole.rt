@@ -108,7 +108,7 @@ fn first_locals(alloc: Global, locals: &[VType]) -> Result<Items<VType>, ClassFa
 }
 
 /// Whether a local is `this` before its initialization.
-fn has_this(locals: &[VType]) -> bool
+pub(crate) fn has_this(locals: &[VType]) -> bool
     ensures { result ≡ list_any is_this locals.now }
 {
     locals
