@@ -1,11 +1,11 @@
 -- A count that was read under its test is the one that is read from lists.
-use Rattle.std.proofs.Common.{◌≡◌, ℕ, zero, suc, ◌+◌, ◌-◌, ◌*◌, ◌^◌, ◌<◌, ◌≤◌, Bool, true, false, List, [], ◌∷◌, ◌++◌, length, take, drop, Result, Ok, Err, refl, sym, ap, subst, ◌∙◌, ◌⊎◌, inl, inr, arith}
+use Rattle.std.proofs.Common.{◌≡◌, ℕ, zero, suc, ◌+◌, ◌-◌, ◌*◌, ◌<◌, ◌≤◌, Bool, true, List, [], ◌∷◌, ◌++◌, length, take, drop, Ok, Err, refl, sym, ap, subst, ◌∙◌, inl, inr, arith}
 use Rattle.std.specs.List.{AllByRecursion}
 use Rattle.std.proofs.lemmas.Bool.{cases_Bool}
 use Rattle.wv_room.specs.declared.frames.Frames.{Frames}
 use Rattle.wv_room.specs.declared.frame_count.FrameKind.{FrameKind}
 use Rattle.wv_room.specs.Number.{number_of, BeginsWith, IsFirstFault}
-use Rattle.wv_frames.specs.Reading.{some_below, count_fits, count_at}
+use Rattle.wv_frames.specs.Reading.{some_below, count_at}
 use Rattle.wv_frames.proofs.Sizes.{fits_true, true_fits}
 use Rattle.wv_frames.proofs.Readers.{IsBytes}
 use Rattle.wv_frames.proofs.Tags.{CountRoom, test, at_pair, count_is, some_true, true_some}

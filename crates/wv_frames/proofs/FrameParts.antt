@@ -1,23 +1,20 @@
 -- Frames and tables: how they are read, and what fits.
-use Rattle.std.proofs.Common.{◌≡◌, ℕ, zero, suc, ◌+◌, ◌-◌, ◌^◌, ◌<◌, ◌≤◌, Bool, true, false, ltb, List, [], ◌∷◌, ◌++◌, length, Option, Some, None, Result, Ok, Err, refl, sym, ap, subst, ◌∙◌, ◌⊎◌, inl, inr, arith, append_assoc}
+use Rattle.std.proofs.Common.{◌≡◌, ℕ, zero, suc, ◌+◌, ◌-◌, ◌<◌, ◌≤◌, List, [], ◌∷◌, ◌++◌, length, Some, None, Result, Ok, refl, sym, ap, subst, ◌∙◌, inl, inr, arith}
 use Rattle.std.specs.List.{flat_map, AllByRecursion}
 use Rattle.std.proofs.lemmas.Bool.{cases_lt, lt-ltb, le-ltb}
-use Rattle.wv_room.specs.declared.frames.Frames.{Frames}
 use Rattle.wv_room.specs.declared.frame_count.FrameKind.TheVariants as kinds
 use Rattle.wv_room.specs.Frames.{FramesFill}
-use Rattle.wv_room.specs.Counts.{frames_with}
-use Rattle.wv_pool.specs.Reading.{◌>>=◌, fixed, number}
+use Rattle.wv_pool.specs.Reading.{◌>>=◌}
 use Rattle.wv_pool.specs.Entries.{number_bytes}
-use Rattle.wv_frames.specs.declared.raw.RawType.{RawType}
 use Rattle.wv_frames.specs.declared.raw.RawFrame.{RawFrame}
 use Rattle.wv_frames.specs.declared.raw.RawFrame.TheVariants as frames
 use Rattle.wv_frames.specs.declared.tag.FrameTag.{FrameTag}
 use Rattle.wv_frames.specs.declared.tag.FrameTag.TheVariants as frame_tags
-use Rattle.wv_frames.specs.Spelling.{type_bytes, list_bytes, frame_bytes, table_bytes, IsType, IsList, IsFrame, IsLayout}
+use Rattle.wv_frames.specs.Spelling.{type_bytes, list_bytes, frame_bytes, table_bytes, IsFrame, IsLayout}
 use Rattle.wv_frames.specs.Reading.{tag_at, count_at, only_frames, frame_tag, behind_frame_tag, type_at, types_in, list_at, full_behind, frame_behind, frame_at, items_in, frames_in, table_at}
 use Rattle.wv_frames.proofs.Sizes.{Fit, shift_up, shift_down, IsForm, same_form, one_form, extended_form, chop_form, append_form, full_form, frame_first, framed}
 use Rattle.wv_frames.proofs.Readers.{Fill, Reads, resized, renamed, done, Then, then, Seen, seen, alike}
-use Rattle.wv_frames.proofs.Tags.{Short, short_len, Meant, TagRoom, tag, CountRoom, count}
+use Rattle.wv_frames.proofs.Tags.{Short, Meant, TagRoom, tag, CountRoom, count}
 use Rattle.wv_frames.proofs.TypeParts.{some_is, coming, TypeText, TypesText, ListText, short_before, one_read, types_read, list_read}
 
 -- ---- tags
@@ -187,7 +184,11 @@ frame_from (frames.Append delta locals) text s =
 frame_from (frames.Full delta locals stack) text s =
     tagged (frames.Full delta locals stack) (number_bytes delta ++ (list_bytes locals ++ list_bytes stack)) text (omega arith) full
     (record {
-      first = delta; front = number_bytes delta; back = list_bytes locals ++ list_bytes stack; parts = refl; first_is = (s.0.2, refl);
+      first = delta;
+      front = number_bytes delta;
+      back = list_bytes locals ++ list_bytes stack;
+      parts = refl;
+      first_is = (s.0.2, refl);
       second_is = record { first = locals; front = list_bytes locals; back = list_bytes stack; parts = refl; first_is = (s.0.0, refl); second_is = (stack, refl, (s.0.1, refl)) };
     }) s.1
 

@@ -77,7 +77,12 @@ renamed {A} {read} {P} {Q} S T to from r = record {
   stops = λ bytes left fits p e.
       let d = r.stops bytes left fits p e in
       record {
-        front = d.front; byte = d.byte; rest = d.rest; parts = d.parts; place = d.place; stays = d.stays;
+        front = d.front;
+        byte = d.byte;
+        rest = d.rest;
+        parts = d.parts;
+        place = d.place;
+        stays = d.stays;
         begun = record { value = d.begun.value; more = d.begun.more; extra = d.begun.extra; spelled = to d.begun.value (d.front ++ d.begun.more) d.begun.spelled; rest = d.begun.rest; sum = d.begun.sum };
       };
   there = λ n p. let f = r.there n p in record { value = f.value; text = f.text; more = f.more; spelled = to f.value f.text f.spelled; rest = f.rest; sum = f.sum };
@@ -139,7 +144,11 @@ module _ {A B : Type 0} {read : List ℕ → Result (A × List ℕ) ℕ} {S : A 
   first_stops bytes left d =
       let g = (n d.begun.value).there d.begun.extra d.begun.rest in
       record {
-        front = d.front; byte = d.byte; rest = d.rest; parts = d.parts; place = d.place;
+        front = d.front;
+        byte = d.byte;
+        rest = d.rest;
+        parts = d.parts;
+        place = d.place;
         begun = record {
           value = g.value;
           more = d.begun.more ++ g.text;

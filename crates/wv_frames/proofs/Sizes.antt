@@ -1,10 +1,10 @@
 -- Which item comes first in what fits.
-use Rattle.std.proofs.Common.{◌≡◌, ◌≢◌, ℕ, zero, suc, ◌+◌, ◌-◌, ◌*◌, ◌%◌, ◌<◌, ◌≤◌, Bool, true, false, cond, refl, sym, ap, subst, ◌∙◌, ◌⊎◌, inl, inr, arith}
-use Rattle.std.specs.Prelude.{◌&&◌, nat_le, ◌==◌}
+use Rattle.std.proofs.Common.{◌≡◌, ◌≢◌, ℕ, zero, suc, ◌+◌, ◌-◌, ◌*◌, ◌%◌, ◌<◌, ◌≤◌, Bool, true, false, cond, refl, sym, subst, ◌∙◌, ◌⊎◌, inl, inr, arith}
+use Rattle.std.specs.Prelude.{nat_le, ◌==◌}
 use Rattle.std.proofs.lemmas.Bool.{cases_lt, cases_Bool, and_parts, and_from, leb-true, le-leb, eqb-true, eqb-false, eq-eqb}
 use Rattle.wv_room.specs.declared.frames.Frames.{Frames}
 use Rattle.wv_room.specs.Frames.{FramesFill, FramesTake, most_more, bytes, plain, numbered, list, same, same_with_one, extended_with_one, chop, append, full}
-use Rattle.wv_room.proofs.FrameSizes.{Reaches, reached, spelled}
+use Rattle.wv_room.proofs.FrameSizes.{reached, spelled}
 use Rattle.wv_frames.specs.Reading.{fits_in}
 
 abbrev pub Fit : Frames → ℕ → Type 0

@@ -1,15 +1,14 @@
 -- What a table's reader answers, and where it stops.
-use Rattle.std.proofs.Common.{◌≡◌, ℕ, zero, suc, ◌+◌, ◌-◌, ◌<◌, ◌≤◌, List, [], ◌∷◌, ◌++◌, length, take, Result, Ok, Err, refl, sym, ap, subst, ◌∙◌, ◌⊎◌, inl, inr, arith, append_assoc}
+use Rattle.std.proofs.Common.{◌≡◌, ℕ, suc, ◌+◌, ◌-◌, ◌≤◌, List, [], ◌∷◌, ◌++◌, length, take, Result, Ok, Err, refl, sym, ap, subst, ◌∙◌, inl, inr, arith, append_assoc}
 use Rattle.std.proofs.lemmas.List.{append-nil, length-append, take_at, nil_from_length}
 use Rattle.wv_room.specs.declared.frame_count.FrameKind.TheVariants as kinds
 use Rattle.wv_room.specs.Frames.{FramesFill, bytes}
 use Rattle.wv_room.proofs.FrameSizes.{reached}
-use Rattle.wv_pool.specs.Reading.{◌>>=◌}
 use Rattle.wv_frames.specs.declared.raw.RawFrame.{RawFrame}
 use Rattle.wv_frames.specs.Spelling.{table_bytes, IsLayout}
 use Rattle.wv_frames.specs.Layout.{BeginsTable, IsLayoutFault}
 use Rattle.wv_frames.specs.Reading.{count_at, only_frames, frames_in, table_at}
-use Rattle.wv_frames.proofs.Readers.{IsBytes, ok_is, Fill, Broken, Taken, bind_ok, bind_err}
+use Rattle.wv_frames.proofs.Readers.{IsBytes, ok_is, Broken, Taken, bind_ok, bind_err}
 use Rattle.wv_frames.proofs.Tags.{Short, CountRoom, count_takes, CountStops, at_first, at_second, count_stops}
 use Rattle.wv_frames.proofs.FrameParts.{TableText, TableFill, table_alike, table_read}
 
@@ -57,8 +56,7 @@ broken_fault all left d =
     let place : left ≡ suc (length d.rest) = d.place in
     let none : d.begun.extra ≡ 0 = nothing_left d.begun.rest in
     let front : take (length all - left) all ≡ d.front = front_is all d.front (d.byte ∷ d.rest) _ d.parts (omega arith) in
-    let longer : take (length all - left + 1) all ≡ d.front ++ d.byte ∷ [] = front_is all (d.front ++ d.byte ∷ []) d.rest _ (d.parts ∙ sym (append_assoc d.front (d.byte ∷ []) d.rest)) (omega (arith, length-append d.front (d.byte ∷ []))) in
-    (
+    let longer : take (length all - left + 1) all ≡ d.front ++ d.byte ∷ [] = front_is all (d.front ++ d.byte ∷ []) d.rest _ (d.parts ∙ sym (append_assoc d.front (d.byte ∷ []) d.rest)) (omega (arith, length-append d.front (d.byte ∷ []))) in (
       omega arith,
       record {
         within = omega arith;
@@ -86,8 +84,7 @@ same_first (a ∷ all) more len = refl
 
 first_fault : (all : List ℕ) (left : ℕ) → left ≡ length all → ((other : List ℕ) → length other ≡ length all → take 1 other ≡ take 1 all → (x : ℕ × List ℕ) → count_at kinds.Frame (only_frames 0) other ≡ Ok x → ⊥) → (left ≤ length all) × IsLayoutFault all (length all - left)
 first_fault all left place none =
-    let zero_is : length all - left ≡ 0 = omega arith in
-    (
+    let zero_is : length all - left ≡ 0 = omega arith in (
       omega arith,
       subst (IsLayoutFault all) (sym zero_is) (record { within = omega arith; begun = λ some. absurd (omega arith); none = λ b. never b }),
     )
@@ -108,7 +105,11 @@ layout_fault all left fits e = elim (bind_err (count_at kinds.Frame (only_frames
     of_count (at_first place none) = first_fault all left place none
     of_count (at_second d) =
         let fill : TableFill (length all) = record {
-          value = d.begun.value; text = d.front ++ d.begun.more; more = d.begun.extra; spelled = d.begun.spelled; rest = d.begun.rest;
+          value = d.begun.value;
+          text = d.front ++ d.begun.more;
+          more = d.begun.extra;
+          spelled = d.begun.spelled;
+          rest = d.begun.rest;
           sum = omega (arith, ap length d.parts, length-append d.front (d.byte ∷ d.rest), length-append d.front d.begun.more, d.begun.sum);
         } in
         broken_fault all left (table_read.stops all left fits fill e)

@@ -1,6 +1,6 @@
 -- The readers of numbers, tags and counts.
-use Rattle.std.proofs.Common.{◌≡◌, ℕ, zero, suc, ◌+◌, ◌-◌, ◌*◌, ◌/◌, ◌%◌, ◌^◌, ◌<◌, ◌≤◌, Bool, true, false, cond, ltb, List, [], ◌∷◌, ◌++◌, length, take, drop, Option, Some, None, Result, Ok, Err, refl, sym, ap, subst, ◌∙◌, ◌⊎◌, inl, inr, arith}
-use Rattle.std.proofs.lemmas.Bool.{cases_Bool, cases_lt, ltb-false, ltb-true, le-ltb}
+use Rattle.std.proofs.Common.{◌≡◌, ℕ, zero, suc, ◌+◌, ◌*◌, ◌/◌, ◌%◌, ◌^◌, ◌<◌, Bool, true, false, cond, ltb, List, [], ◌∷◌, ◌++◌, length, take, drop, Option, Some, None, Result, Ok, Err, refl, sym, ap, subst, ◌∙◌, ◌⊎◌, inl, inr, arith}
+use Rattle.std.proofs.lemmas.Bool.{cases_Bool, cases_lt, ltb-true, le-ltb}
 use Rattle.std.proofs.lemmas.List.{take-append-drop, length-append, length-take, length-drop}
 use Rattle.std.proofs.lemmas.Nat.{from_be_bytes-to_be_bytes_2}
 use Rattle.std.proofs.lemmas.Bool.{both_ways}
@@ -12,7 +12,7 @@ use Rattle.wv_pool.specs.Entries.{number_bytes}
 use Rattle.wv_pool.proofs.PlainEntries.{IsBytes-take, number_back}
 use Rattle.wv_frames.specs.Reading.{fits_in, tag_found, tag_at, some_below, count_fits, count_at}
 use Rattle.wv_frames.proofs.Sizes.{Fit, fits_true, true_fits}
-use Rattle.wv_frames.proofs.Readers.{IsBytes, ok_is, Fill, Broken, Taken, Reads}
+use Rattle.wv_frames.proofs.Readers.{IsBytes, Fill, Broken, Taken, Reads}
 
 -- a test that chooses
 pub chosen_ok : {A : Type 0} (b : Bool) (d : ℕ) (x y : A) → cond b (Err d) (Ok x) ≡ Ok y → (b ≡ false) × (x ≡ y)

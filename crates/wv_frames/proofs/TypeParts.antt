@@ -1,13 +1,11 @@
 -- Types and lists of types: how they are read, and what fits.
-use Rattle.std.proofs.Common.{◌≡◌, ℕ, zero, suc, ◌+◌, ◌^◌, ◌<◌, ◌≤◌, List, [], ◌∷◌, ◌++◌, length, Option, Some, None, Result, Ok, Err, refl, sym, ap, subst, ◌∙◌, ◌⊎◌, inl, inr, arith, append_assoc}
+use Rattle.std.proofs.Common.{◌≡◌, ℕ, zero, suc, ◌+◌, ◌<◌, ◌≤◌, List, [], ◌∷◌, ◌++◌, length, Option, Some, None, Result, Ok, refl, sym, ap, subst, ◌∙◌, inl, inr, arith}
 use Rattle.std.specs.List.{flat_map, AllByRecursion}
 use Rattle.std.proofs.lemmas.Bool.{ne_eqb}
-use Rattle.std.proofs.lemmas.List.{append-nil}
 use Rattle.std.proofs.lemmas.List.Concat.{flat_map-cons}
 use Rattle.wv_room.specs.declared.frames.Frames.{Frames}
 use Rattle.wv_room.specs.declared.frame_count.FrameKind.TheVariants as kinds
 use Rattle.wv_room.specs.Frames.{FramesFill, plain, numbered, list}
-use Rattle.wv_room.specs.Counts.{frames_with}
 use Rattle.wv_pool.specs.Reading.{◌>>=◌, fixed, number}
 use Rattle.wv_pool.specs.Entries.{number_bytes}
 use Rattle.wv_frames.specs.declared.raw.RawType.{RawType}
@@ -15,7 +13,7 @@ use Rattle.wv_frames.specs.declared.raw.RawType.TheVariants as types
 use Rattle.wv_frames.specs.declared.tag.TypeTag.{TypeTag}
 use Rattle.wv_frames.specs.declared.tag.TypeTag.TheVariants as type_tags
 use Rattle.wv_frames.specs.Spelling.{type_bytes, list_bytes, IsType, IsList}
-use Rattle.wv_frames.specs.Reading.{tag_at, count_at, type_tag, behind_type_tag, type_behind, type_at, items_in, one_type, types_in, list_at}
+use Rattle.wv_frames.specs.Reading.{tag_at, count_at, type_tag, behind_type_tag, type_behind, type_at, items_in, types_in, list_at}
 use Rattle.wv_frames.proofs.Sizes.{Fit, shift_up, shift_down, type_first, list_first}
 use Rattle.wv_frames.proofs.Readers.{Fill, Reads, resized, renamed, done, Then, then, Seen, seen, alike}
 use Rattle.wv_frames.proofs.Tags.{Short, Room2, short_len, short, Meant, TagRoom, tag, CountRoom, count}

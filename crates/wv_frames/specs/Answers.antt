@@ -1,5 +1,5 @@
 -- What the calls that read a StackMapTable answer.
-use Rattle.std.specs.Prelude.{◌≡◌, ℕ, List, Option, None, Result, Ok, Err}
+use Rattle.std.specs.Prelude.{◌≡◌, ℕ, List, None, Result, Ok, Err}
 use Rattle.wv_base.specs.declared.fault.ClassFault.{ClassFault}
 use Rattle.wv_base.specs.declared.fault.ClassFault.TheVariants as faults
 use Rattle.wv_base.specs.declared.class_file.PoolEntry.{PoolEntry}

@@ -102,11 +102,7 @@ fn raw_frames(
 /// a full one (JVM Specification 4.7.4). The classes that the frames name are added to the pool,
 /// where no number names them yet; `Full` says that they would make its count pass 65,535, and then
 /// those before stay.
-pub fn write_frames(
-    alloc: Global,
-    frames: &FrameList,
-    pool: &mut Pool,
-) -> Result<Bytes, PoolFault>
+pub fn write_frames(alloc: Global, frames: &FrameList, pool: &mut Pool) -> Result<Bytes, PoolFault>
     requires { IsWritable frames.now }
     ensures read_again { (first : Frame) → IfOk result (λ bytes. Spells pool.new first bytes frames.now) }
     ensures kept { Keeps pool.old pool.new }

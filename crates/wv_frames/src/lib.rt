@@ -18,8 +18,5 @@ pub use reading::{read_frames, read_layout};
 pub use whole::whole_frames;
 pub use writable::is_writable;
 
-
-
-
 #[cfg(test)]
 mod tests;

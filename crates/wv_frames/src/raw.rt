@@ -24,17 +24,33 @@ pub type RawTypes = Items<RawType>;
 #[derive(Debug, Drop)]
 pub enum RawFrame {
     /// The locals of the frame before, and no stack. The delta is below 64.
-    Same { delta: u8 },
+    Same {
+        delta: u8,
+    },
     /// The locals of the frame before, and one item on the stack. The delta is below 64.
-    SameWithOne { delta: u8, stack: RawType },
+    SameWithOne {
+        delta: u8,
+        stack: RawType,
+    },
     /// The same, with any delta.
-    SameWithOneExtended { delta: u16, stack: RawType },
+    SameWithOneExtended {
+        delta: u16,
+        stack: RawType,
+    },
     /// The locals of the frame before but the last one, two or three, and no stack.
-    Chop { count: u8, delta: u16 },
+    Chop {
+        count: u8,
+        delta: u16,
+    },
     /// The locals of the frame before, and no stack, with any delta.
-    SameExtended { delta: u16 },
+    SameExtended {
+        delta: u16,
+    },
     /// The locals of the frame before and one, two or three more, and no stack.
-    Append { delta: u16, locals: RawTypes },
+    Append {
+        delta: u16,
+        locals: RawTypes,
+    },
     /// All locals, and the stack.
     Full {
         delta: u16,

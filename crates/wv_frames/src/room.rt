@@ -26,11 +26,7 @@ pub(crate) fn number_at(bytes: &[u8]) -> Result<(u16, &[u8]), Stop>
 }
 
 /// A count of items that fit behind it, besides what else is to come.
-pub(crate) fn count_at(
-    kind: FrameKind,
-    besides: Frames,
-    bytes: &[u8],
-) -> Result<(u16, &[u8]), Stop>
+pub(crate) fn count_at(kind: FrameKind, besides: Frames, bytes: &[u8]) -> Result<(u16, &[u8]), Stop>
     requires { length bytes.now < 2 ^ 32 }
     ensures gives { Gives (λ x. (x.0, x.1.now)) result (count_at kind besides bytes.now) }
     ensures shorter { IfOk result (λ x. length x.1.now ≤ length bytes.now) }

@@ -1,14 +1,11 @@
 use super::*;
-use std::alloc::{AllocGlobal, Global};
-use std::process::Abort;
+use std::alloc::Global;
 use std::test::*;
 use wv_base::{ClassFault, Frame, FrameAt, FrameList, Items, Memory, Name, VType};
 use wv_pool::{Pool, read_pool};
 
 /// The pool 1 A, 2 Class 1, 3 [I, 4 Class 3.
-const POOL: [u8; 17] = [
-    0, 5, 1, 0, 1, 0x41, 7, 0, 1, 1, 0, 2, 0x5B, 0x49, 7, 0, 3,
-];
+const POOL: [u8; 17] = [0, 5, 1, 0, 1, 0x41, 7, 0, 1, 1, 0, 2, 0x5B, 0x49, 7, 0, 3];
 
 /// A table with each kind of frame, behind a frame of two locals.
 const EACH: [u8; 38] = [
@@ -39,15 +36,30 @@ fn first(alloc: Global) -> Result<Frame, Memory> {
     })
 }
 
+/// Reads the content of an attribute that isn't long.
+fn read(alloc: Global, bytes: &[u8], pool: &Pool, first: &Frame) -> Result<FrameList, ClassFault> {
+    if bytes.len() > 0xFFFF {
+        return Err(ClassFault::Memory);
+    }
+    read_frames(alloc, bytes, pool, first)
+}
+
 /// Where reading the bytes fails: `Ok` for a layout, `Err` for a reference.
 fn fault(alloc: Global, bytes: &[u8]) -> Result<Option<Result<usize, usize>>, Fail> {
-    Ok(
-        match read_frames(alloc, bytes, &pool(alloc)?, &first(alloc)?) {
-            Err(ClassFault::Layout { at }) => Some(Ok(at)),
-            Err(ClassFault::Reference { at }) => Some(Err(at)),
-            _ => None,
-        },
-    )
+    Ok(match read(alloc, bytes, &pool(alloc)?, &first(alloc)?) {
+        Err(ClassFault::Layout { at }) => Some(Ok(at)),
+        Err(ClassFault::Reference { at }) => Some(Err(at)),
+        _ => None,
+    })
+}
+
+/// Where reading the table fails with another byte at a place.
+fn changed(alloc: Global, at: usize, byte: u8) -> Result<Option<Result<usize, usize>>, Fail> {
+    let mut bytes = EACH;
+    if let Some(place) = bytes.get_mut(at) {
+        *place = byte;
+    }
+    fault(alloc, &bytes)
 }
 
 /// A type as a letter.
@@ -61,61 +73,58 @@ fn letter(kind: &VType) -> char {
         VType::Null => 'n',
         VType::UninitializedThis => 'u',
         VType::Uninitialized(_) => 'o',
-        VType::Class(name) => {
-            if name.is_ascii("A") {
-                'a'
-            } else {
-                'c'
-            }
-        }
+        VType::Class(name) => { if name.is_ascii("A") { 'a' } else { 'c' } }
     }
 }
 
-/// The offset, the locals, the stack and the flag of a frame in one text.
-fn shown(alloc: Global, one: &FrameAt) -> Result<String, Fail> {
-    let mut text = format!(in alloc; "{} ", one.at)?;
-    for local in one.frame.locals.as_slice() {
-        text.push(letter(local))?;
-    }
-    text.push(' ')?;
-    for item in one.frame.stack.as_slice() {
-        text.push(letter(item))?;
-    }
-    if one.frame.this_uninitialized {
-        text.push('!')?;
+/// The offset, the locals, the stack and the flag of each frame in one text.
+fn shown(alloc: Global, frames: &FrameList) -> Result<String, Fail> {
+    let mut text = String::new(alloc);
+    for one in frames.as_slice() {
+        let at = format!(in alloc; "{} ", one.at)?;
+        text.push_str(at.as_str())?;
+        for local in one.frame.locals.as_slice() {
+            text.push(letter(local))?;
+        }
+        text.push(' ')?;
+        for item in one.frame.stack.as_slice() {
+            text.push(letter(item))?;
+        }
+        if one.frame.this_uninitialized {
+            text.push('!')?;
+        }
+        text.push(';')?;
     }
     Ok(text)
 }
 
-fn is_each<R: Abort + AllocGlobal>(rt: &R, frames: &FrameList) -> Result<(), Fail> {
-    let wanted = [
-        "3 ai ", "5 ai i", "262 ai c", "272 ai ", "273 ailot ", "275 ail ", "278 ud f!", "279 u !",
-    ];
-    assert_eq!(rt; frames.len(), wanted.len());
-    for (one, want) in frames.as_slice().iter().zip(wanted.iter()) {
-        assert_eq!(rt; shown(rt.alloc(), one)?.as_str(), *want);
-    }
-    Ok(())
-}
+/// The frames of the table.
+const SHOWN: &str = "3 ai ;5 ai i;262 ai c;272 ai ;273 ailot ;275 ail ;278 ud f!;279 u !;";
 
 #[test]
 fn each_kind(rt: HostRuntime) -> Result<(), Fail> {
     let alloc = rt.alloc();
     let frames = read_frames(alloc, &EACH, &pool(alloc)?, &first(alloc)?)?;
-    is_each(&rt, &frames)
+    assert_eq!(rt; shown(alloc, &frames)?.as_str(), SHOWN);
+    Ok(())
 }
 
 #[test]
 fn cut_at_every_byte(rt: HostRuntime) -> Result<(), Fail> {
     for (end, want) in CUTS.iter().enumerate() {
-        assert_eq!(rt; fault(rt.alloc(), &EACH[..end])?, Some(Ok(*want)), "cut at {end}");
+        assert_eq!(rt;
+            fault(rt.alloc(), &EACH[..end])?,
+            Some(Ok(*want)),
+            "cut at {end}"
+        );
     }
     Ok(())
 }
 
 #[test]
 fn changed_bytes(rt: HostRuntime) -> Result<(), Fail> {
-    let layout = [
+    let alloc = rt.alloc();
+    for (at, byte, want) in [
         (2, 128, 2),
         (2, 246, 2),
         (4, 9, 4),
@@ -129,22 +138,33 @@ fn changed_bytes(rt: HostRuntime) -> Result<(), Fail> {
         (0, 1, 0),
         (1, 9, 35),
         (1, 7, 33),
-    ];
-    for (at, byte, want) in layout {
-        let mut bytes = EACH;
-        bytes[at] = byte;
-        assert_eq!(rt; fault(rt.alloc(), &bytes)?, Some(Ok(want)), "{byte} at {at}");
+    ] {
+        assert_eq!(rt; changed(alloc, at, byte)?, Some(Ok(want)), "{byte} at {at}");
     }
-    for (at, byte, want) in [(10, 3, 9), (10, 9, 9), (22, 248, 22), (35, 248, 35)] {
-        let mut bytes = EACH;
-        bytes[at] = byte;
-        let want = if byte == 248 && at == 22 { None } else { Some(Err(want)) };
-        assert_eq!(rt; fault(rt.alloc(), &bytes)?, want, "{byte} at {at}");
+    for (at, byte, want) in [(10, 3, 9), (10, 9, 9), (35, 248, 35)] {
+        assert_eq!(rt;
+            changed(alloc, at, byte)?,
+            Some(Err(want)),
+            "{byte} at {at}"
+        );
     }
-    assert_eq!(rt; fault(rt.alloc(), &[0, 1, 248, 0, 0])?, Some(Err(2)));
-    assert_eq!(rt; fault(rt.alloc(), &[0, 2, 253, 0, 0, 7, 0, 2, 7, 0, 1, 128])?, Some(Ok(11)));
-    assert_eq!(rt; fault(rt.alloc(), &[0, 1, 253, 0, 0, 7, 0, 2, 7, 0, 1])?, Some(Err(9)));
-    assert_eq!(rt; fault(rt.alloc(), &[0, 1, 255, 0, 0, 0, 1, 7, 0, 2, 0, 1, 7, 0, 6])?, Some(Err(13)));
+    assert_eq!(rt; changed(alloc, 22, 248)?, None);
+    // a chop of three of two locals, and the second of two types
+    assert_eq!(rt; fault(alloc, &[0, 1, 248, 0, 0])?, Some(Err(2)));
+    assert_eq!(rt;
+        fault(alloc, &[0, 1, 253, 0, 0, 7, 0, 2, 7, 0, 1])?,
+        Some(Err(9))
+    );
+    // a fault of the layout behind a number that names no class comes first
+    assert_eq!(rt;
+        fault(alloc, &[0, 2, 253, 0, 0, 7, 0, 1, 7, 0, 1, 128])?,
+        Some(Ok(11))
+    );
+    // a number of the stack
+    assert_eq!(rt;
+        fault(alloc, &[0, 1, 255, 0, 0, 0, 1, 7, 0, 2, 0, 1, 7, 0, 6])?,
+        Some(Err(13))
+    );
     Ok(())
 }
 
@@ -152,6 +172,9 @@ fn changed_bytes(rt: HostRuntime) -> Result<(), Fail> {
 fn written_and_read_again(rt: HostRuntime) -> Result<(), Fail> {
     let alloc = rt.alloc();
     let frames = read_frames(alloc, &EACH, &pool(alloc)?, &first(alloc)?)?;
+    if !is_writable(&frames)? {
+        return Err("frames that were read can't be written")?;
+    }
     let (mut empty, _) = read_pool(alloc, &[0, 1])?;
     let bytes = write_frames(alloc, &frames, &mut empty)?;
     assert_eq!(rt; empty.entries().len(), 4);
@@ -160,7 +183,8 @@ fn written_and_read_again(rt: HostRuntime) -> Result<(), Fail> {
         stack: Items::new(alloc),
         this_uninitialized: false,
     };
-    is_each(&rt, &read_frames(alloc, bytes.as_slice(), &empty, &other)?)?;
+    let found = read(alloc, bytes.as_slice(), &empty, &other)?;
+    assert_eq!(rt; shown(alloc, &found)?.as_str(), SHOWN);
     let again = write_frames(alloc, &frames, &mut empty)?;
     assert_eq!(rt; again.as_slice(), bytes.as_slice());
     assert_eq!(rt; empty.entries().len(), 4);

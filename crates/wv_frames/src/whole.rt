@@ -161,7 +161,13 @@ fn frame_after(
         RawFrame::Same { .. } | RawFrame::SameExtended { .. } => {
             Ok(frame_of(first_locals(alloc, locals)?, Items::new(alloc)))
         }
-        RawFrame::SameWithOne { stack, .. } => frame_with_one(alloc, locals, *stack, pool, base + 1),
+        RawFrame::SameWithOne { stack, .. } => frame_with_one(
+            alloc,
+            locals,
+            *stack,
+            pool,
+            base + 1,
+        ),
         RawFrame::SameWithOneExtended { stack, .. } => {
             frame_with_one(alloc, locals, *stack, pool, base + 3)
         }
@@ -169,10 +175,7 @@ fn frame_after(
             let Some(left) = locals.len().checked_sub(usize::from(*count)) else {
                 return Err(ClassFault::Reference { at: base });
             };
-            Ok(frame_of(
-                first_locals(alloc, &locals[..left])?,
-                Items::new(alloc),
-            ))
+            Ok(frame_of(first_locals(alloc, &locals[..left])?, Items::new(alloc)))
         }
         RawFrame::Append { locals: more, .. } => {
             let last = whole_types(alloc, more.as_slice(), pool, base + 3)?;
@@ -181,14 +184,13 @@ fn frame_after(
             Ok(frame_of(all, Items::new(alloc)))
         }
         RawFrame::Full {
-            locals: all, stack, ..
+            locals: all,
+            stack,
+            ..
         } => {
             let first = whole_types(alloc, all.as_slice(), pool, base + 5)?;
             let behind = base + 7 + types_len(all.as_slice());
-            Ok(frame_of(
-                first,
-                whole_types(alloc, stack.as_slice(), pool, behind)?,
-            ))
+            Ok(frame_of(first, whole_types(alloc, stack.as_slice(), pool, behind)?))
         }
     }
 }

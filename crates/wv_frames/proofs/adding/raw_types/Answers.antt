@@ -1,4 +1,4 @@
-use Rattle.std.proofs.Common.{◌≡◌, ◌++◌, ◌∷◌, [], ◌+◌, List, length, take, drop, Some, ap, sym, subst, ◌∙◌, refl, arith}
+use Rattle.std.proofs.Common.{◌≡◌, ◌++◌, ◌∷◌, [], ◌+◌, List, length, take, drop, ap, sym, subst, ◌∙◌, refl, arith}
 use Rattle.std.proofs.lemmas.List.{take_more, append-nil, length-append}
 use Rattle.std.proofs.lemmas.Result.{err_from_is_err_and}
 use Rattle.wv_base.specs.declared.constant.Const.{Const}
@@ -29,12 +29,12 @@ loop-kind-preserved c =
     let raw = c.in_ok-raw_type.field-0 in
     record {
       found = rw (take_more c.args.kinds.now c.loop-kind.kind-index c.kind-item.result c.loop-kind-test.true, ← c.kind-item.is)
-      (ap (types_of c.raw_type.new.pool) c.in_ok-push.ensures.ok
-      ∙ types_more c.raw_type.new.pool c.loop-kind.raw front raw c.kind-item.result (types_kept c.loop-kind.pool c.raw_type.new.pool c.loop-kind.raw front c.in_ok-raw_type.ensures.kept c.loop-kind.invariant.found) c.in_ok-raw_type.ensures.found.1);
+          (ap (types_of c.raw_type.new.pool) c.in_ok-push.ensures.ok
+          ∙ types_more c.raw_type.new.pool c.loop-kind.raw front raw c.kind-item.result (types_kept c.loop-kind.pool c.raw_type.new.pool c.loop-kind.raw front c.in_ok-raw_type.ensures.kept c.loop-kind.invariant.found) c.in_ok-raw_type.ensures.found.1);
       types = rw c.in_ok-push.ensures.ok (AllByRecursion-push IsType c.loop-kind.raw raw c.loop-kind.invariant.types c.in_ok-raw_type.ensures.found.0);
       len = omega (arith, ap length c.in_ok-push.ensures.ok, length-append c.loop-kind.raw (raw ∷ []), c.loop-kind.invariant.len);
       kept = keeps_then c.args.pool.now c.loop-kind.pool c.raw_type.new.pool c.loop-kind.invariant.kept c.in_ok-raw_type.ensures.kept;
       grows = rw (take_more c.args.kinds.now c.loop-kind.kind-index c.kind-item.result c.loop-kind-test.true, ← c.kind-item.is)
-      (subst (λ (cs : List Const). Grows c.args.pool.now cs c.raw_type.new.pool) (sym (types_need-more front c.kind-item.result))
-      (grows_then c.args.pool.now c.loop-kind.pool c.raw_type.new.pool (types_need front) (type_needs c.kind-item.result) c.loop-kind.invariant.grows c.in_ok-raw_type.ensures.grows));
+          (subst (λ (cs : List Const). Grows c.args.pool.now cs c.raw_type.new.pool) (sym (types_need-more front c.kind-item.result))
+          (grows_then c.args.pool.now c.loop-kind.pool c.raw_type.new.pool (types_need front) (type_needs c.kind-item.result) c.loop-kind.invariant.grows c.in_ok-raw_type.ensures.grows));
     }

@@ -1,5 +1,4 @@
-use Rattle.std.proofs.Common.{List, ap, ◌∙◌, sym}
-use Rattle.wv_frames.specs.declared.raw.RawFrame.{RawFrame}
+use Rattle.std.proofs.Common.{ap, ◌∙◌}
 use Rattle.wv_frames.specs.Whole.{frames_from}
 use Rattle.wv_frames.proofs.WholeFaults.{gives_only}
 use Rattle.wv_frames.proofs.reading.read_frames.Goals as goal

@@ -23,8 +23,8 @@ loop-one-preserved c =
     let after : frame_after c.args.pool.now (locals_behind c.args.first.now.locals c.loop-one.frames) c.one-item.result ≡ Some c.in_ok-frame.frame = subst (λ (ls : List VType). frame_after c.args.pool.now ls c.one-item.result ≡ Some c.in_ok-frame.frame) c.locals_behind.ensures c.in_ok-frame.ensures.found in
     record {
       found = rw (take_more c.args.raw.now c.loop-one.one-index c.one-item.result c.loop-one-test.true, ← c.one-item.is)
-      (frames_more c.args.pool.now 0 c.args.first.now.locals (take c.loop-one.one-index c.args.raw.now) c.loop-one.frames c.one-item.result c.in_ok-frame.frame c.loop-one.invariant.found after
-      ∙ ap (λ (at : ℕ). Some (c.loop-one.frames ++ placed at c.in_ok-frame.frame ∷ [])) (sym sum) ∙ ap (λ (fs : List FrameAt). Some fs) (sym c.in_ok-push.ensures.ok));
+          (frames_more c.args.pool.now 0 c.args.first.now.locals (take c.loop-one.one-index c.args.raw.now) c.loop-one.frames c.one-item.result c.in_ok-frame.frame c.loop-one.invariant.found after
+          ∙ ap (λ (at : ℕ). Some (c.loop-one.frames ++ placed at c.in_ok-frame.frame ∷ [])) (sym sum) ∙ ap (λ (fs : List FrameAt). Some fs) (sym c.in_ok-push.ensures.ok));
       next = sym (ap (next_behind 0) c.in_ok-push.ensures.ok ∙ next_more 0 c.loop-one.frames (placed (c.loop-one.next + c.from.result) c.in_ok-frame.frame));
       few = omega (arith, c.loop-one.invariant.few, c.from.ensures);
       place = omega (arith, (rw (← c.one-item.is) at more), c.loop-one.invariant.place, c.frame_len-place.ensures.len);

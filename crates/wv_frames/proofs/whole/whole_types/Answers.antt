@@ -1,11 +1,10 @@
-use Rattle.std.proofs.Common.{◌≡◌, ◌++◌, ◌∷◌, [], List, get_or, take, Some, sym, subst, ◌∙◌, ap, arith}
+use Rattle.std.proofs.Common.{List, get_or, take, Some, sym, ◌∙◌, ap, arith}
 use Rattle.std.proofs.lemmas.List.{take_more}
 use Rattle.std.proofs.lemmas.Result.{err_from_is_err_and}
 use Rattle.wv_base.specs.declared.frame.VType.{VType}
 use Rattle.wv_pool.proofs.Entire.{flat_map-more}
 use Rattle.wv_frames.specs.declared.raw.RawType.TheVariants as types
 use Rattle.wv_frames.specs.Spelling.{type_bytes}
-use Rattle.wv_frames.specs.Whole.{types_of}
 use Rattle.wv_frames.proofs.WholeFrames.{types_more}
 use Rattle.wv_frames.proofs.WholeFaults.{types_break}
 use Rattle.wv_frames.proofs.whole.whole_types.Goals as goal
