@@ -15,7 +15,7 @@ mod writing;
 pub use adding::write_frames;
 pub use raw::{RawFrame, RawType, RawTypes};
 pub use reading::{read_frames, read_layout};
-pub use whole::whole_frames;
+pub use whole::{frame_len, type_len, whole_frames};
 pub use writable::is_writable;
 
 #[cfg(test)]

@@ -12,8 +12,8 @@ use std::alloc::Global;
 use wv_base::{ClassFault, Frame, FrameAt, FrameList, Items, VType};
 use wv_pool::Pool;
 
-/// How many bytes a type takes.
-fn type_len(raw: RawType) -> usize
+/// How many bytes a verification type takes (JVM Specification 4.7.4).
+pub fn type_len(raw: RawType) -> usize
     ensures len { result ≡ length (type_bytes raw) }
     ensures small { result ≤ 3 }
 {
@@ -35,8 +35,8 @@ fn types_len(raw: &[RawType]) -> usize
     len
 }
 
-/// How many bytes a frame takes.
-fn frame_len(raw: &RawFrame) -> usize
+/// How many bytes a frame takes (JVM Specification 4.7.4).
+pub fn frame_len(raw: &RawFrame) -> usize
     requires { IsFrame raw.now }
     ensures len { result ≡ length (frame_bytes raw.now) }
     ensures small { result ≤ 393217 }
@@ -95,8 +95,7 @@ fn whole_types(
     Ok(types)
 }
 
-/// The first locals of a frame, so many.
-fn first_locals(alloc: Global, locals: &[VType]) -> Result<Items<VType>, ClassFault>
+fn copy_locals(alloc: Global, locals: &[VType]) -> Result<Items<VType>, ClassFault>
     ensures found { IfOk result (λ copy. copy ≡ locals.now) }
     ensures fault { IfErr result (λ e. e ≡ faults.Memory) }
 {
@@ -141,7 +140,7 @@ fn frame_with_one(
     ensures fault { IfErr result (TypesBreakFrom pool.now (stack ∷ []) base) }
 {
     let stack = whole_types(alloc, &[stack], pool, base)?;
-    Ok(frame_of(first_locals(alloc, locals)?, stack))
+    Ok(frame_of(copy_locals(alloc, locals)?, stack))
 }
 
 /// The frame that is spelled so from `base` on, behind one with these locals.
@@ -159,7 +158,7 @@ fn frame_after(
 {
     match raw {
         RawFrame::Same { .. } | RawFrame::SameExtended { .. } => {
-            Ok(frame_of(first_locals(alloc, locals)?, Items::new(alloc)))
+            Ok(frame_of(copy_locals(alloc, locals)?, Items::new(alloc)))
         }
         RawFrame::SameWithOne { stack, .. } => frame_with_one(
             alloc,
@@ -175,11 +174,11 @@ fn frame_after(
             let Some(left) = locals.len().checked_sub(usize::from(*count)) else {
                 return Err(ClassFault::Reference { at: base });
             };
-            Ok(frame_of(first_locals(alloc, &locals[..left])?, Items::new(alloc)))
+            Ok(frame_of(copy_locals(alloc, &locals[..left])?, Items::new(alloc)))
         }
         RawFrame::Append { locals: more, .. } => {
             let last = whole_types(alloc, more.as_slice(), pool, base + 3)?;
-            let mut all = first_locals(alloc, locals)?;
+            let mut all = copy_locals(alloc, locals)?;
             all.append(last)?;
             Ok(frame_of(all, Items::new(alloc)))
         }
