@@ -1,0 +1,11 @@
+pub mod Sizes
+pub mod Readers
+pub mod Tags
+pub mod Counting
+pub mod Loops
+pub mod TypeParts
+pub mod FrameParts
+pub mod TableReads
+pub mod WholeFrames
+pub mod WholeFaults
+pub mod PoolGrowth

@@ -1,0 +1,47 @@
+//! Numbers, and what fits behind them.
+ghost use Rattle.std.specs.Prelude.{◌≡◌, ◌^◌, ◌<◌, ◌≤◌, length, IfOk};
+ghost use Rattle.wv_pool.specs.Reading.{fixed, number};
+ghost use Rattle.wv_frames.specs.Reading.{Gives, fits_in, count_at};
+
+use crate::stop::Stop;
+use wv_room::{FrameCount, FrameKind, Frames, read_number};
+
+/// Whether what is to come can fill so many bytes exactly.
+pub(crate) fn fits_in(to_come: Frames, room: usize) -> bool
+    requires { room < 2 ^ 32 }
+    ensures { result ≡ fits_in to_come room }
+{
+    to_come.fits(room as u32)
+}
+
+pub(crate) fn number_at(bytes: &[u8]) -> Result<(u16, &[u8]), Stop>
+    ensures gives { Gives (λ x. (x.0, x.1.now)) result (fixed 2 number bytes.now) }
+    ensures shorter { IfOk result (λ x. length x.1.now ≤ length bytes.now) }
+{
+    if bytes.len() < 2 {
+        return Err(Stop::Left(0));
+    }
+    let (front, rest) = bytes.split_at(2);
+    Ok((u16::from_be_bytes([front[0], front[1]]), rest))
+}
+
+/// A count of items that fit behind it, besides what else is to come.
+pub(crate) fn count_at(kind: FrameKind, besides: Frames, bytes: &[u8]) -> Result<(u16, &[u8]), Stop>
+    requires { length bytes.now < 2 ^ 32 }
+    ensures gives { Gives (λ x. (x.0, x.1.now)) result (count_at kind besides bytes.now) }
+    ensures shorter { IfOk result (λ x. length x.1.now ≤ length bytes.now) }
+{
+    let [_, _, rest @ ..] = bytes else {
+        return Err(Stop::Left(bytes.len()));
+    };
+    let room = rest.len() as u32;
+    let allowed = FrameCount {
+        kind,
+        besides,
+        room,
+    };
+    match read_number(bytes, 2, &allowed) {
+        Ok(count) => Ok((count as u16, rest)),
+        Err(place) => Err(Stop::Left(bytes.len() - place)),
+    }
+}
