@@ -1,0 +1,6 @@
+pub mod Fills
+pub mod Filling
+pub mod Leading
+pub mod Places
+pub mod StepFaults
+pub mod Stack

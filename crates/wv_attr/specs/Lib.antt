@@ -1,0 +1,4 @@
+pub mod Marks
+pub mod Groups
+pub mod Layout
+pub mod Steps
