@@ -4,3 +4,5 @@ pub mod Leading
 pub mod Places
 pub mod StepFaults
 pub mod Stack
+pub mod Parameters
+pub mod TypeTables

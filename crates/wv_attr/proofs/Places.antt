@@ -183,10 +183,10 @@ module _ (first : List Group) (bytes : List ℕ) (ms : List Mark) (at : ℕ) whe
         }
 
 -- what fits nothing has no table
-pub no_room : (gs : List Group) (bytes : List ℕ) → (ElementsFillRoom (pending gs) (length bytes) → ⊥) → IsLayoutFault gs bytes 0
+pub no_room : (gs : List Group) (bytes : List ℕ) → (length bytes < 2 ^ 32 → ElementsFillRoom (pending gs) (length bytes) → ⊥) → IsLayoutFault gs bytes 0
 no_room gs bytes none = record {
   within = omega arith;
-  no_table = λ parts t. none (subst (λ (k : ℕ). ElementsFillRoom (pending gs) k) (ap length (sym t.spelled)) (follows_fill t.follows));
+  no_table = λ parts t. none t.small (subst (λ (k : ℕ). ElementsFillRoom (pending gs) k) (ap length (sym t.spelled)) (follows_fill t.follows));
   begins = λ k pos le. absurd (omega arith);
-  none = λ lt b. none (subst (λ (k : ℕ). ElementsFillRoom (pending gs) k) b.long (follows_fill b.follows));
+  none = λ lt b. none b.small (subst (λ (k : ℕ). ElementsFillRoom (pending gs) k) b.long (follows_fill b.follows));
 }

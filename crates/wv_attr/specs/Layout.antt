@@ -1,5 +1,5 @@
 -- Where the bytes first break the layout of a table of annotations.
-use Rattle.std.specs.Prelude.{◌≡◌, ℕ, ◌+◌, ◌^◌, ◌<◌, ◌≤◌, List, [], ◌∷◌, length, take, Result, Ok, Err}
+use Rattle.std.specs.Prelude.{◌≡◌, ℕ, ◌+◌, ◌^◌, ◌<◌, ◌≤◌, List, [], ◌∷◌, length, take, Result, Ok, Err, ◌⊎◌}
 use Rattle.wv_base.specs.declared.fault.ClassFault.{ClassFault}
 use Rattle.wv_base.specs.declared.fault.ClassFault.TheVariants as faults
 use Rattle.wv_room.specs.declared.element_count.ElementKind.TheVariants as kinds
@@ -48,3 +48,31 @@ abbrev pub LayoutBreaks : List Group → List ℕ → ClassFault → Type 0
 LayoutBreaks gs bytes faults.Memory = Unit {0}
 LayoutBreaks gs bytes (faults.Layout at) = IsLayoutFault gs bytes at
 LayoutBreaks gs bytes (faults.Reference at) = ⊥
+
+-- the bytes are a count of lists and the lists (4.7.18)
+pub record IsParameterTable (bytes : List ℕ) (parts : List Mark) : Type 0 where
+  pub count : ℕ
+  pub rest : List ℕ
+  pub starts : bytes ≡ count ∷ rest
+  pub table : IsTable (lists count) rest parts
+
+-- behind the count: it begins lists, and here it shows that the bytes are no such lists
+pub record BreaksBehind (bytes : List ℕ) (at : ℕ) : Type 0 where
+  pub count : ℕ
+  pub rest : List ℕ
+  pub place : ℕ
+  pub starts : bytes ≡ count ∷ rest
+  pub later : at ≡ place + 1
+  pub begins : Begins (lists count) rest 0
+  pub fault : IsLayoutFault (lists count) rest place
+
+-- at the count: so many lists can't fill the bytes behind it, or there is none
+pub record BreaksFirst (bytes : List ℕ) (at : ℕ) : Type 0 where
+  pub first : at ≡ 0
+  pub none : (count : ℕ) (rest : List ℕ) → bytes ≡ count ∷ rest → Begins (lists count) rest 0 → ⊥
+
+-- the cause of a fault in a table of parameters
+abbrev pub ParametersBreak : List ℕ → ClassFault → Type 0
+ParametersBreak bytes faults.Memory = Unit {0}
+ParametersBreak bytes (faults.Layout at) = BreaksFirst bytes at ⊎ BreaksBehind bytes at
+ParametersBreak bytes (faults.Reference at) = ⊥

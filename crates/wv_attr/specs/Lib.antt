@@ -2,3 +2,5 @@ pub mod Marks
 pub mod Groups
 pub mod Layout
 pub mod Steps
+pub mod Types
+pub mod References

@@ -4,8 +4,12 @@
 mod group;
 mod layout;
 mod mark;
+mod reference;
 mod step;
+mod types;
 
 pub use group::Group;
-pub use layout::read_layout;
+pub use layout::{read_layout, read_parameter_layout};
 pub use mark::Mark;
+pub use reference::first_break;
+pub use types::Types;
