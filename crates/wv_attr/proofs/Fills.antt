@@ -1,5 +1,5 @@
 -- Items that fill the room do so by one part after another.
-use Rattle.std.proofs.Common.{◌≡◌, ℕ, zero, suc, ◌+◌, ◌-◌, ◌*◌, ◌<◌, ◌≤◌, refl, subst, arith}
+use Rattle.std.proofs.Common.{◌≡◌, ℕ, suc, ◌+◌, ◌*◌, ◌<◌, ◌≤◌, subst, arith}
 use Rattle.wv_room.specs.Elements.{ElementsFill, bytes, constant, enumerator, nested, array, annotation, parameter}
 use Rattle.wv_room.proofs.ElementSizes.{reached, spelled}
 

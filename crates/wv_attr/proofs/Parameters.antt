@@ -1,10 +1,10 @@
 -- Tables of parameters: a count and lists.
-use Rattle.std.proofs.Common.{◌≡◌, ℕ, zero, suc, ◌+◌, ◌-◌, ◌^◌, ◌<◌, ◌≤◌, List, [], ◌∷◌, length, get_or, take, drop, refl, sym, subst, ap, ◌∙◌, arith}
+use Rattle.std.proofs.Common.{◌≡◌, ℕ, ◌+◌, ◌-◌, ◌^◌, ◌<◌, ◌≤◌, List, [], ◌∷◌, length, get_or, take, drop, refl, sym, subst, ap, ◌∙◌, arith}
 use Rattle.std.proofs.lemmas.List.{take_all}
 use Rattle.wv_room.specs.Counts.{ElementsFillRoom}
 use Rattle.wv_attr.specs.declared.mark.Mark.{Mark}
 use Rattle.wv_attr.specs.Groups.{pending}
-use Rattle.wv_attr.specs.Layout.{lists, IsTable, Begins, IsLayoutFault, IsParameterTable, BreaksFirst, BreaksBehind}
+use Rattle.wv_attr.specs.Layout.{lists, IsLayoutFault, IsParameterTable, BreaksFirst, BreaksBehind}
 use Rattle.wv_attr.proofs.Filling.{follows_fill, filled}
 use Rattle.wv_attr.proofs.Leading.{nearer_only}
 

@@ -1,18 +1,17 @@
 -- Reading a table part by part, and the place of its fault.
-use Rattle.std.proofs.Common.{◌≡◌, ℕ, zero, suc, ◌+◌, ◌-◌, ◌*◌, ◌^◌, ◌<◌, ◌≤◌, List, [], ◌∷◌, ◌++◌, length, take, drop, refl, sym, subst, ap, ◌∙◌, ◌⊎◌, inl, inr, append_assoc, arith, min}
+use Rattle.std.proofs.Common.{◌≡◌, ℕ, zero, suc, ◌+◌, ◌-◌, ◌^◌, ◌<◌, ◌≤◌, List, [], ◌∷◌, ◌++◌, length, take, drop, refl, sym, subst, ap, ◌∙◌, ◌⊎◌, inl, inr, arith}
 use Rattle.std.proofs.lemmas.List.{length-append, length-take, length-take-le, length-drop, take-append-drop, take-append-le, take-take, drop-take, append-nil}
 use Rattle.std.proofs.Math.Seq.{take-append-add, take-append_seam, take-length}
-use Rattle.wv_room.specs.declared.element_count.ElementKind.{ElementKind}
 use Rattle.wv_room.specs.declared.elements.Elements.{Elements}
 use Rattle.wv_room.specs.Counts.{elements_with, ElementsFillRoom}
 use Rattle.wv_attr.specs.declared.mark.Mark.{Mark}
 use Rattle.wv_attr.specs.declared.group.Group.{Group}
-use Rattle.wv_attr.specs.Marks.{mark_bytes, table_bytes, IsMark}
-use Rattle.wv_attr.specs.Groups.{kind_of, behind, less, IsShallow, Follows, end, over, part, pending}
+use Rattle.wv_attr.specs.Marks.{mark_bytes, table_bytes}
+use Rattle.wv_attr.specs.Groups.{behind, less, IsShallow, Follows, end, part, pending}
 use Rattle.wv_attr.specs.Layout.{IsTable, Begins, IsLayoutFault}
 use Rattle.wv_attr.specs.Steps.{IsNext, StepFault}
-use Rattle.wv_attr.proofs.Filling.{table-cons, follows_fill, Filled, filled, nothing_left}
-use Rattle.wv_attr.proofs.Leading.{Leads, stay, past, on, table-append, table-one, length-one, leads_follow, leads_only, same_front, first_of, nearer_only}
+use Rattle.wv_attr.proofs.Filling.{table-cons, follows_fill, filled, nothing_left}
+use Rattle.wv_attr.proofs.Leading.{Leads, stay, past, on, table-append, table-one, leads_follow, leads_only, same_front, first_of, nearer_only}
 
 -- what was read, and what is due
 pub record Reading (first : List Group) (bytes : List ℕ) (ms : List Mark) (at : ℕ) (gs : List Group) (due : Elements) : Type 0 where

@@ -1,5 +1,5 @@
 -- Where the bytes first break one part.
-use Rattle.std.proofs.Common.{◌≡◌, ℕ, zero, suc, ◌+◌, ◌-◌, ◌*◌, ◌/◌, ◌%◌, ◌^◌, ◌<◌, ◌≤◌, Bool, true, false, List, [], ◌∷◌, ◌++◌, length, get_or, take, drop, refl, sym, subst, ap, ◌∙◌, ◌⊎◌, inl, inr, arith, IsTrue}
+use Rattle.std.proofs.Common.{◌≡◌, ℕ, zero, suc, ◌+◌, ◌-◌, ◌*◌, ◌/◌, ◌%◌, ◌<◌, ◌≤◌, true, false, List, [], ◌∷◌, ◌++◌, length, get_or, take, drop, refl, sym, subst, ap, ◌∙◌, ◌⊎◌, inl, inr, arith, IsTrue}
 use Rattle.std.specs.List.{AllByRecursion}
 use Rattle.std.proofs.lemmas.List.{take-append-le, take_all}
 use Rattle.wv_room.specs.declared.element_count.ElementKind.{ElementKind}
@@ -9,9 +9,9 @@ use Rattle.wv_room.specs.Counts.{elements_with, ElementsFillRoom}
 use Rattle.wv_room.specs.Number.{number_of, BeginsWith, IsFirstFault, AllowsSome}
 use Rattle.wv_attr.specs.declared.mark.Mark.{Mark}
 use Rattle.wv_attr.specs.declared.mark.Mark.TheVariants as marks
-use Rattle.wv_attr.specs.Marks.{two_bytes, is_constant_tag, mark_bytes, IsMark}
-use Rattle.wv_attr.specs.Groups.{kind_of, behind, IsShallow}
-use Rattle.wv_attr.specs.Steps.{IsNext, StepFault, Steps, IsCount, CountFault}
+use Rattle.wv_attr.specs.Marks.{two_bytes, is_constant_tag, mark_bytes}
+use Rattle.wv_attr.specs.Groups.{IsShallow}
+use Rattle.wv_attr.specs.Steps.{IsNext, StepFault, CountFault}
 use Rattle.wv_attr.proofs.Fills.{fills, least_room}
 use Rattle.wv_attr.proofs.Filling.{progress}
 

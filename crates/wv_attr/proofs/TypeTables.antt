@@ -1,6 +1,6 @@
 -- A table of types tells of the text with each number.
-use Rattle.std.proofs.Common.{◌≡◌, ℕ, zero, suc, ◌≤◌, Bool, true, false, cond, List, [], ◌∷◌, ◌++◌, Option, Some, None, refl, sym, ap, subst, ◌∙◌, Bor, arith, IsTrue}
-use Rattle.std.specs.Option.{option_copied, is_some, IfSome, IsSomeAnd}
+use Rattle.std.proofs.Common.{◌≡◌, ℕ, zero, suc, Bool, true, false, cond, List, [], ◌∷◌, ◌++◌, Option, Some, None, refl, ap, subst, Bor, arith, IsTrue}
+use Rattle.std.specs.Option.{option_copied, is_some, IsSomeAnd}
 use Rattle.std.specs.Prelude.{slice_get, ◌==◌}
 use Rattle.std.proofs.lemmas.Bool.{eqb-true}
 use Rattle.wv_base.specs.declared.class_file.PoolEntry.{PoolEntry}

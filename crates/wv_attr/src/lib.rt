@@ -13,3 +13,6 @@ pub use layout::{read_layout, read_parameter_layout};
 pub use mark::Mark;
 pub use reference::first_break;
 pub use types::Types;
+
+#[cfg(test)]
+mod tests;

@@ -1,11 +1,11 @@
-use Rattle.std.proofs.Common.{◌≡◌, ◌+◌, ◌-◌, ◌^◌, ◌<◌, [], ◌∷◌, ◌++◌, List, ℕ, length, take, drop, reverse, refl, sym, subst, ap, ◌∙◌, arith}
+use Rattle.std.proofs.Common.{◌≡◌, ◌+◌, ◌^◌, ◌<◌, [], ◌∷◌, ◌++◌, List, ℕ, length, drop, reverse, refl, sym, subst, ap, ◌∙◌, arith}
 use Rattle.std.proofs.lemmas.List.{length-drop}
 use Rattle.wv_room.specs.declared.elements.Elements.{Elements}
 use Rattle.wv_room.specs.Counts.{elements_with, ElementsFillRoom}
 use Rattle.wv_attr.specs.declared.group.Group.{Group}
 use Rattle.wv_attr.specs.declared.mark.Mark.{Mark}
 use Rattle.wv_attr.specs.Marks.{mark_bytes, IsMark}
-use Rattle.wv_attr.specs.Groups.{behind, less, pending, IsShallow}
+use Rattle.wv_attr.specs.Groups.{behind, less, pending}
 use Rattle.wv_attr.specs.Steps.{IsNext, StepFault}
 use Rattle.wv_attr.proofs.Filling.{HasRoom, has_room, narrow_behind}
 use Rattle.wv_attr.proofs.Places.{Reading, start, advance, over_all, only_one, stops}

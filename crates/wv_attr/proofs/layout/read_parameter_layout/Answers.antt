@@ -1,5 +1,4 @@
-use Rattle.std.proofs.Common.{◌≡◌, true, false, refl, inl, inr, get_or}
-use Rattle.wv_attr.specs.Layout.{lists}
+use Rattle.std.proofs.Common.{◌≡◌, true, false, refl, inl, inr}
 use Rattle.wv_attr.proofs.Parameters.{breaks_first, no_lists, breaks_behind}
 use Rattle.wv_attr.proofs.layout.read_parameter_layout.Goals as goal
 

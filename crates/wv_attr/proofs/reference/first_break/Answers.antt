@@ -1,8 +1,8 @@
-use Rattle.std.proofs.Common.{◌≡◌, ◌+◌, ◌≤◌, length, get_or, take, drop, arith}
+use Rattle.std.proofs.Common.{◌+◌, get_or, take, drop, arith}
 use Rattle.std.proofs.lemmas.List.{take_more}
 use Rattle.wv_pool.proofs.Entire.{flat_map-more, flat_map-front, split_at, AllByRecursion-push}
 use Rattle.wv_attr.specs.declared.mark.Mark.TheVariants as marks
-use Rattle.wv_attr.specs.Marks.{mark_bytes, table_bytes}
+use Rattle.wv_attr.specs.Marks.{mark_bytes}
 use Rattle.wv_attr.proofs.reference.first_break.Goals as goal
 
 pub returns-in-Some-clause-found : goal.returns-in-Some-clause-found

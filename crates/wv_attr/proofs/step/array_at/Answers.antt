@@ -1,4 +1,4 @@
-use Rattle.std.proofs.Common.{◌≡◌, true, false, refl, inl, inr, arith}
+use Rattle.std.proofs.Common.{◌≡◌, true, false, refl, inl, inr}
 use Rattle.wv_attr.proofs.StepFaults.{no_array, array_fault}
 use Rattle.wv_attr.proofs.step.array_at.Goals as goal
 use Rattle.wv_attr.proofs.step.array_at.Goals.{then-rest-lt2-via-then-rest-lt2, then-rest-lt2-via-else-rest-lt2+then-not-leaves_some}
