@@ -6,3 +6,5 @@ pub mod StepFaults
 pub mod Stack
 pub mod Parameters
 pub mod TypeTables
+pub mod Shapes
+pub mod Meanings

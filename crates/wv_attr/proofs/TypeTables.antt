@@ -1,5 +1,5 @@
 -- A table of types tells of the text with each number.
-use Rattle.std.proofs.Common.{◌≡◌, ℕ, zero, suc, Bool, true, false, cond, List, [], ◌∷◌, ◌++◌, Option, Some, None, refl, ap, subst, Bor, arith, IsTrue}
+use Rattle.std.proofs.Common.{◌≡◌, ℕ, zero, suc, Bool, true, false, cond, List, [], ◌∷◌, ◌++◌, Option, Some, None, refl, ap, subst, ◌∙◌, Bor, arith, IsTrue}
 use Rattle.std.specs.Option.{option_copied, is_some, IsSomeAnd}
 use Rattle.std.specs.Prelude.{slice_get, ◌==◌}
 use Rattle.std.proofs.lemmas.Bool.{eqb-true}
@@ -13,6 +13,7 @@ use Rattle.wv_desc.specs.TypeOf.{IsFieldTypeOf}
 use Rattle.wv_pool.specs.References.{text_in, text_of}
 use Rattle.wv_attr.specs.Types.{IsTextType, IsEntryType, AreTypes, type_in, type_of, class_element, class_in}
 use Rattle.wv_attr.specs.References.{IsClassDescriptor}
+use Rattle.wv_attr.specs.Meanings.{class_descriptor}
 
 pub AreTypes-push : (pool : List PoolEntry) (types : List (Option FieldType)) (entry : PoolEntry) (type : Option FieldType) → AreTypes pool types → IsEntryType entry type → AreTypes (pool ++ entry ∷ []) (types ++ type ∷ [])
 AreTypes-push [] [] entry type h k = (k, tt)
@@ -97,3 +98,24 @@ class_known (Some text) None h = record {
 }
 class_known None (Some f) h = absurd cc
 class_known None None h = record { holds = λ e. absurd (never_true e); shows = λ d. absurd d }
+
+text_zero : (text : List ℕ) (e : ElementType) (name : List ℕ) → IsFieldTypeOf text (a_field 0 e) → class_element e ≡ Some name → text ≡ class_descriptor name
+text_zero text (elements.Class other) name h e = let same : other ≡ name = cc in h.1 ∙ ap class_descriptor same
+text_zero text (elements.Primitive p) name h e = absurd cc
+
+text_found : (text : List ℕ) (d : ℕ) (e : ElementType) (b : Bool) (name : List ℕ) → (d == 0) ≡ b → IsFieldTypeOf text (a_field d e) → cond {A = Option (List ℕ)} b (class_element e) None ≡ Some name → text ≡ class_descriptor name
+text_found text d e true name zero_is h is =
+    let none : d ≡ 0 = eqb-true d 0 zero_is in
+    text_zero text e name (subst (λ (k : ℕ). IsFieldTypeOf text (a_field k e)) none h) is
+text_found text d e false name zero_is h is = absurd cc
+
+-- the text whose type is a class
+pub class_text : (o : Option (List ℕ)) (t : Option FieldType) (name : List ℕ) → TextType o t → class_in t ≡ Some name → o ≡ Some (class_descriptor name)
+class_text (Some text) (Some f) name h e = ap (λ (x : List ℕ). Some x) (text_found text f.dimensions f.element (f.dimensions == 0) name refl h.found e)
+class_text (Some text) None name h e = absurd cc
+class_text None (Some f) name h e = absurd cc
+class_text None None name h e = absurd cc
+
+pub is_some_none : (o : Option (List ℕ)) → None ≡ o → IsTrue (is_some o) → ⊥
+is_some_none (Some x) e h = absurd cc
+is_some_none None e h = never_true h

@@ -4,3 +4,5 @@ pub mod Layout
 pub mod Steps
 pub mod Types
 pub mod References
+pub mod Fronts
+pub mod Meanings

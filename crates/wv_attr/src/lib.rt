@@ -4,6 +4,8 @@
 mod group;
 mod layout;
 mod mark;
+mod naming;
+mod notes;
 mod reference;
 mod step;
 mod types;
@@ -11,6 +13,7 @@ mod types;
 pub use group::Group;
 pub use layout::{read_layout, read_parameter_layout};
 pub use mark::Mark;
+pub use notes::{notes_of, read_notes};
 pub use reference::first_break;
 pub use types::Types;
 
