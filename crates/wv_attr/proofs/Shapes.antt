@@ -1,17 +1,13 @@
 -- Parts that follow groups are their items, one behind the other.
-use Rattle.std.proofs.Common.{◌≡◌, ℕ, zero, suc, ◌+◌, ◌-◌, ◌<◌, ◌≤◌, List, [], ◌∷◌, ◌++◌, length, refl, sym, subst, ap, ◌∙◌, arith}
+use Rattle.std.proofs.Common.{◌≡◌, ℕ, suc, ◌-◌, List, [], ◌∷◌, refl, sym, subst, arith}
 use Rattle.wv_room.specs.declared.element_count.ElementKind.{ElementKind}
 use Rattle.wv_room.specs.declared.element_count.ElementKind.TheVariants as kinds
-use Rattle.wv_base.specs.declared.class_file.PoolEntry.{PoolEntry}
-use Rattle.wv_base.specs.declared.note.NamedElement.{NamedElement, out-NamedElement}
-use Rattle.wv_base.specs.declared.note.Element.{Element}
-use Rattle.wv_pool.specs.References.{text_of}
 use Rattle.wv_attr.specs.declared.mark.Mark.{Mark}
 use Rattle.wv_attr.specs.declared.mark.Mark.TheVariants as marks
 use Rattle.wv_attr.specs.declared.group.Group.{Group}
-use Rattle.wv_attr.specs.Groups.{kind_of, behind, less, Follows, end, over, part}
+use Rattle.wv_attr.specs.Groups.{kind_of, behind, Follows, end, over, part}
 use Rattle.wv_attr.specs.Layout.{lists}
-use Rattle.wv_attr.specs.Fronts.{ValueFront, ValuesFront, AnnotationFront, PairFront, PairsFront, AnnotationsFront, ListsFront, constant, enumerator, class, nested, array, no_values, one_value, annotation, pair, no_pairs, one_pair, no_annotations, one_annotation, no_lists, one_list}
+use Rattle.wv_attr.specs.Fronts.{ValueFront, ValuesFront, AnnotationFront, PairsFront, AnnotationsFront, ListsFront, constant, enumerator, class, nested, array, no_values, one_value, annotation, pair, no_pairs, one_pair, no_annotations, one_annotation, no_lists, one_list}
 
 -- so many items of a kind
 abbrev pub ItemsFront : ElementKind → ℕ → List Mark → List Mark → Type 0

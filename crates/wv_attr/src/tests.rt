@@ -1,7 +1,7 @@
 use super::*;
 use std::alloc::Global;
 use std::test::*;
-use wv_base::ClassFault;
+use wv_base::{ClassFault, Element};
 use wv_pool::{Pool, read_pool};
 
 /// A pool: 1 La; 2 n, 3 Integer, 4 Double, 6 Float, 7 Long, 9 I, 10 V.
@@ -254,5 +254,34 @@ fn references(rt: HostRuntime) -> Result<(), Fail> {
             "{number} at {low}"
         );
     }
+    Ok(())
+}
+
+#[test]
+fn annotations_with_their_names(rt: HostRuntime) -> Result<(), Fail> {
+    let (pool, _) = read_pool(rt.alloc(), &POOL)?;
+    let notes = read_notes(rt.alloc(), &KINDS, &pool, true)?;
+    let [note] = notes.as_slice() else {
+        return Err("there isn't one annotation")?;
+    };
+    assert!(rt; note.visible && note.parameter.is_none());
+    assert!(rt; note.annotation.class.is_ascii("a"));
+    assert_eq!(rt; note.annotation.elements.len(), 13);
+    let Some(last) = note.annotation.elements.get(12) else {
+        return Err("there is no last element")?;
+    };
+    assert!(rt; last.name.is_ascii("n"));
+    match &last.value {
+        Element::Array(values) => assert_eq!(rt; values.len(), 2),
+        _ => return Err("the last element is no array")?,
+    }
+    let mut bytes = KINDS;
+    bytes[3] = 9;
+    assert!(rt;
+        matches!(
+            read_notes(rt.alloc(), &bytes, &pool, true),
+            Err(ClassFault::Reference { at: 2 })
+        )
+    );
     Ok(())
 }

@@ -1,9 +1,6 @@
-use Rattle.std.proofs.Common.{◌≡◌, true, false, sym, ap, ◌∙◌, Some, None}
-use Rattle.std.proofs.lemmas.Grind.{common_steps}
-use Rattle.std.specs.Option.{is_some}
 use Rattle.wv_pool.specs.References.{text_of}
 use Rattle.wv_attr.specs.Types.{type_of, class_in}
-use Rattle.wv_attr.proofs.TypeTables.{agree, class_known, class_text, is_some_none}
+use Rattle.wv_attr.proofs.TypeTables.{agree, class_known, is_some_none}
 use Rattle.wv_attr.proofs.Meanings.{named_class}
 use Rattle.wv_attr.proofs.naming.class.Goals as goal
 

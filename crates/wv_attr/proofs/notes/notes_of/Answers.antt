@@ -1,4 +1,4 @@
-use Rattle.std.proofs.Common.{◌≡◌, ℕ, List, [], ◌∷◌, length, None, sym, subst, ap, ◌∙◌}
+use Rattle.std.proofs.Common.{ℕ, List, [], ◌∷◌, length, None, sym, subst, ap, ◌∙◌}
 use Rattle.wv_base.specs.declared.note.Note.{Note}
 use Rattle.wv_attr.specs.declared.mark.Mark.{Mark}
 use Rattle.wv_attr.specs.declared.mark.Mark.TheVariants as marks
