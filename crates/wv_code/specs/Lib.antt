@@ -1,0 +1,5 @@
+pub mod Constants
+pub mod Formed
+pub mod Size
+pub mod Entering
+pub mod Laying

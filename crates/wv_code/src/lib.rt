@@ -1,0 +1,13 @@
+//! A method's code, and where its instructions stand (JVM Specification 4.7.3 and 4.9.1).
+#![tactic(auto)]
+
+mod code_layout;
+mod entering;
+mod laying;
+mod size;
+
+pub use code_layout::{CodeLayout, Offsets};
+pub use laying::layout;
+
+#[cfg(test)]
+mod tests;
