@@ -9,7 +9,7 @@ ghost use Rattle.wv_pool.specs.Numbers.{Named};
 ghost use Rattle.wv_code.specs.Formed.{IsFormed};
 ghost use Rattle.wv_code.specs.Entering.{short_constant, short_constants, Enters, MeetsFull};
 
-use crate::size::LDC;
+use crate::opcode::LDC;
 use wv_base::{Const, Insn};
 use wv_pool::{Pool, PoolFault};
 

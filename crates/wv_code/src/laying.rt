@@ -12,7 +12,8 @@ ghost use Rattle.wv_code.specs.Laying.{Stand, Reaches, AllReach, IsFar, IsLayout
 
 use crate::code_layout::CodeLayout;
 use crate::entering::enter_constants;
-use crate::size::{GOTO_W, size};
+use crate::opcode::GOTO_W;
+use crate::size::size;
 use std::alloc::Global;
 use wv_base::{Body, Insn, Items, LimitFault};
 use wv_pool::{Pool, PoolFault};

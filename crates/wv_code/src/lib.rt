@@ -2,11 +2,15 @@
 #![tactic(auto)]
 
 mod code_layout;
+mod constants;
 mod entering;
+mod formed;
 mod laying;
+mod opcode;
 mod size;
 
 pub use code_layout::{CodeLayout, Offsets};
+pub use formed::are_formed;
 pub use laying::layout;
 
 #[cfg(test)]

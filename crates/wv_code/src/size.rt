@@ -1,20 +1,13 @@
 //! The sizes of instructions.
 ghost use Rattle.std.specs.Prelude.{◌≡◌, ℕ, ◌+◌, ◌<◌, ◌^◌};
 ghost use Rattle.wv_insn.specs.Spelling.{padding};
-ghost use Rattle.wv_code.specs.Formed.{IsFormed};
+ghost use Rattle.wv_code.specs.Formed.{IsShaped};
 ghost use Rattle.wv_code.specs.Size.{size};
 ghost use Rattle.wv_code.specs.Laying.{IsLong, IsWidened, Takes};
 
+use crate::opcode::{BIPUSH, GOTO_W, INVOKEINTERFACE, LDC};
 use wv_base::{Const, Insn};
 use wv_pool::Pool;
-
-const BIPUSH: u8 = 0x10;
-
-pub(crate) const LDC: u8 = 0x12;
-
-const INVOKEINTERFACE: u8 = 0xb9;
-
-pub(crate) const GOTO_W: u8 = 0xc8;
 
 /// Whether an ldc of the constant is written as ldc_w.
 fn is_long(constant: &Const, pool: &Pool) -> bool
@@ -36,7 +29,7 @@ fn switch_len(at: u64, fixed: u64) -> u64
 
 /// How many bytes the instruction takes at the offset.
 pub(crate) fn size(insn: &Insn, at: u64, pool: &Pool) -> u64
-    requires { (count : ℕ) × IsFormed count insn.now }
+    requires { (count : ℕ) × IsShaped count insn.now }
     ensures taken { Takes pool.now at insn.now result }
     ensures some { result < 2 ^ 40 }
 {
