@@ -1,5 +1,5 @@
 -- Lists, as a loop goes over them.
-use Rattle.std.proofs.Common.{◌≡◌, ℕ, zero, suc, ◌+◌, ◌<◌, List, [], ◌∷◌, ◌++◌, length, get_or, take, drop, refl, sym, ap, subst, ◌∙◌, arith, add-one}
+use Rattle.std.proofs.Common.{◌≡◌, ℕ, zero, suc, ◌+◌, ◌<◌, ◌≤◌, List, [], ◌∷◌, ◌++◌, length, get_or, take, drop, refl, sym, ap, subst, ◌∙◌, arith, add-one}
 use Rattle.std.specs.List.{flat_map, AllByRecursion}
 use Rattle.std.proofs.lemmas.List.{append-nil, take_more}
 use Rattle.std.proofs.lemmas.List.Concat.{flat_map-append}
@@ -30,3 +30,13 @@ AllByRecursion-map P Q (x ∷ xs) f h = (f x h.0, AllByRecursion-map P Q xs f h.
 
 pub AllByRecursion-more : {X : Type 0} (P : X → Type 0) (xs : List X) (i : ℕ) (d : X) → i < length xs → AllByRecursion P (take i xs) → P (get_or xs i d) → AllByRecursion P (take (i + 1) xs)
 AllByRecursion-more P xs i d lt h k = subst (AllByRecursion P) (sym (take_more xs i d lt)) (AllByRecursion-push P (take i xs) (get_or xs i d) h k)
+
+-- what is below one bound is below a greater one
+pub below_more : (xs : List ℕ) (a b : ℕ) → a ≤ b → AllByRecursion (λ x. x ≤ a) xs → AllByRecursion (λ x. x ≤ b) xs
+below_more xs a b le h = AllByRecursion-map (λ x. x ≤ a) (λ x. x ≤ b) xs (λ x k. omega arith) h
+
+-- a number of the list, or 0 behind its end
+pub small_at : (xs : List ℕ) (k bound : ℕ) → AllByRecursion (λ x. x ≤ bound) xs → get_or xs k 0 ≤ bound
+small_at [] k bound h = omega arith
+small_at (x ∷ xs) zero bound h = h.0
+small_at (x ∷ xs) (suc k) bound h = small_at xs k bound h.1

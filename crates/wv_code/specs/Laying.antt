@@ -33,11 +33,11 @@ IsWidened pool _ long = Unit {0}
 abbrev pub Takes : List PoolEntry → ℕ → Insn → ℕ → Type 0
 Takes pool at i bytes = (long : Bool) × IsWidened pool i long × (bytes ≡ size long at i)
 
--- The instructions stand at these offsets, one behind the other, and end at the last number.
-pub data Stand (pool : List PoolEntry) : List Insn → List ℕ → ℕ → Type 0 where
-  none : Stand pool [] [] 0
-  next : {insns : List Insn} {offsets : List ℕ} {at bytes : ℕ} (i : Insn) → Stand pool insns offsets at → Takes pool at i bytes
-      → Stand pool (insns ++ i ∷ []) (offsets ++ at ∷ []) (at + bytes)
+-- From an offset on the instructions stand at these offsets, each where the one before it ends, and end at the last number.
+abbrev pub Stand : List PoolEntry → ℕ → List Insn → List ℕ → ℕ → Type 0
+Stand pool at [] [] end = end ≡ at
+Stand pool at (i ∷ insns) (o ∷ offsets) end = (o ≡ at) × ((bytes : ℕ) × Takes pool at i bytes × Stand pool (at + bytes) insns offsets end)
+Stand pool at _ _ end = ⊥
 
 -- A jump at an offset reaches its target: but for goto_w, its distance has 16 bits (6.5 goto and goto_w).
 abbrev pub Reaches : List ℕ → ℕ → Insn → Type 0
@@ -56,7 +56,7 @@ pub record IsFar (insns : List Insn) (offsets : List ℕ) : Type 0 where
 
 -- the offsets of the instructions and the length of the code, in which each jump reaches its target
 pub record IsLayout (pool : List PoolEntry) (insns : List Insn) (layout : CodeLayout) : Type 0 where
-  pub stand : Stand pool insns layout.offsets layout.len
+  pub stand : Stand pool 0 insns layout.offsets layout.len
   pub small : layout.len ≤ 65535
   pub reach : AllReach insns layout.offsets
 
@@ -67,14 +67,14 @@ pub record IsLarge (pool : List PoolEntry) (insns : List Insn) : Type 0 where
   pub parts : insns ≡ front ++ back
   pub offsets : List ℕ
   pub end : ℕ
-  pub stand : Stand pool front offsets end
+  pub stand : Stand pool 0 front offsets end
   pub passes : 65535 < end
 
 -- the offsets of the instructions, at which some jump doesn't reach its target
 pub record LeavesFar (pool : List PoolEntry) (insns : List Insn) : Type 0 where
   pub offsets : List ℕ
   pub end : ℕ
-  pub stand : Stand pool insns offsets end
+  pub stand : Stand pool 0 insns offsets end
   pub small : end ≤ 65535
   pub far : IsFar insns offsets
 

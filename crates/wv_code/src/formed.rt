@@ -1,5 +1,5 @@
 //! Whether instructions are formed.
-ghost use Rattle.std.specs.Prelude.{◌≡◌, ◌↔◌, ◌<◌, ◌≤◌, length, FitsSigned, IsTrue, IfOk};
+ghost use Rattle.std.specs.Prelude.{◌≡◌, ◌↔◌, ◌<◌, ◌≤◌, ◌<ℤ◌, length, FitsSigned, IsTrue, IfOk};
 ghost use Rattle.std.specs.Int.{w32};
 ghost use Rattle.std.specs.List.{AllByRecursion};
 ghost use Rattle.wv_pool.specs.Allowed.{IsAllowed};
@@ -93,11 +93,17 @@ fn all_cases_below(cases: &[Case], count: usize) -> bool
     true
 }
 
+fn is_key_below(before: Case, case: Case) -> bool
+    ensures { IsTrue result ↔ (before.key <ℤ case.key) }
+{
+    before.key < case.key
+}
+
 fn keys_ascend(cases: &[Case]) -> bool
     ensures { IsTrue result ↔ KeysAscend cases.now }
 {
     for place in 1..cases.len() {
-        if cases[place - 1].key >= cases[place].key {
+        if !is_key_below(cases[place - 1], cases[place]) {
             return false;
         }
     }

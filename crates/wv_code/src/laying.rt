@@ -24,7 +24,7 @@ const MOST: u64 = 65535;
 /// The instructions one behind the other, whatever their jumps reach.
 fn stand(alloc: Global, insns: &[Insn], pool: &Pool) -> Result<CodeLayout, LimitFault>
     requires { (count : ℕ) × AllByRecursion (IsFormed count) insns.now }
-    ensures stand { IfOk result (λ layout. Stand pool.now insns.now layout.offsets layout.len) }
+    ensures stand { IfOk result (λ layout. Stand pool.now 0 insns.now layout.offsets layout.len) }
     ensures small { IfOk result (λ layout. layout.len ≤ 65535) }
     ensures not_full { IfErr result (λ e. e ≡ limits.PoolLarge → ⊥) }
     ensures not_far { IfErr result (λ e. e ≡ limits.BranchFar → ⊥) }
@@ -44,7 +44,7 @@ fn stand(alloc: Global, insns: &[Insn], pool: &Pool) -> Result<CodeLayout, Limit
 }
 
 /// The offset of the instruction with the index, or 0 where there is none.
-fn offset_at(offsets: &[u32], index: usize) -> u32
+pub(crate) fn offset_at(offsets: &[u32], index: usize) -> u32
     ensures { result ≡ slice_index offsets.now index }
 {
     offsets.get(index).copied().unwrap_or(0)

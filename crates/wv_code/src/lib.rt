@@ -8,10 +8,12 @@ mod formed;
 mod laying;
 mod opcode;
 mod size;
+mod writing;
 
 pub use code_layout::{CodeLayout, Offsets};
 pub use formed::are_formed;
 pub use laying::layout;
+pub use writing::write_insns;
 
 #[cfg(test)]
 mod tests;
