@@ -1,13 +1,13 @@
 -- Opcodes and the forms of their operands.
-use Rattle.std.proofs.Common.{◌≡◌, ℕ, zero, suc, ◌+◌, ◌-◌, ◌^◌, ◌<◌, ◌≤◌, Bool, true, false, cond, leb, ℤ, List, Option, Some, None, refl, sym, subst, ◌∙◌, arith, ◌⊎◌, inl, inr}
-use Rattle.std.specs.Prelude.{FitsSigned, pos, nat_lt, ◌==◌, ◌&&◌, if◌then◌else◌}
+use Rattle.std.proofs.Common.{◌≡◌, ℕ, zero, suc, ◌+◌, ◌-◌, ◌<◌, ◌≤◌, Bool, true, false, cond, leb, ℤ, List, Option, Some, refl, subst, arith, ◌⊎◌, inl, inr}
+use Rattle.std.specs.Prelude.{FitsSigned, pos, nat_lt, if◌then◌else◌}
 use Rattle.std.specs.Int.{w16}
 use Rattle.std.proofs.lemmas.Bool.{leb-true, leb-false}
 use Rattle.std.proofs.lemmas.Bool.Decides.{nat_tests}
 use Rattle.wv_base.specs.declared.form.Form.{Form}
 use Rattle.wv_base.specs.declared.form.Form.TheVariants as form
 use Rattle.wv_base.specs.Instructions.{form_of}
-use Rattle.wv_base.specs.Opcodes.{bipush, sipush, ldc, ldc_w, ldc2_w, getstatic, invokestatic, invokevirtual, invokeinterface, goto_w}
+use Rattle.wv_base.specs.Opcodes.{bipush, sipush, ldc, ldc_w, ldc2_w, getstatic, invokestatic, invokeinterface, goto_w}
 use Rattle.wv_insn.specs.declared.raw.Raw.TheVariants as raw
 use Rattle.wv_insn.specs.Spelling.{IsInstruction}
 use Rattle.wv_code.specs.Formed.{LoadsWords, TakesMember}

@@ -1,11 +1,11 @@
 -- Counts and keys of instructions.
-use Rattle.std.proofs.Common.{◌≡◌, ℕ, zero, suc, ◌+◌, ◌-◌, ◌<◌, ◌≤◌, ◌↔◌, Bool, true, false, ◌⊎◌, inl, inr, List, [], ◌∷◌, length, get_or, take, refl, sym, ap, ◌∙◌, arith}
+use Rattle.std.proofs.Common.{◌≡◌, ℕ, zero, suc, ◌+◌, ◌-◌, ◌<◌, ◌≤◌, ◌↔◌, Bool, inl, inr, List, [], ◌∷◌, length, get_or, take, sym, ap, ◌∙◌, arith}
 use Rattle.std.specs.Prelude.{IsTrue, nat_lt, ◌<ℤ◌}
 use Rattle.std.proofs.lemmas.Bool.Decides.{nat_tests}
 use Rattle.wv_base.specs.declared.insn.Case.{Case}
 use Rattle.wv_base.specs.Descriptor.{HasWords, parameter_words}
 use Rattle.wv_base.proofs.MethodTypes.{method_cancel}
-use Rattle.wv_base.specs.Opcodes.{invokevirtual, invokestatic, invokeinterface}
+use Rattle.wv_base.specs.Opcodes.{invokeinterface}
 use Rattle.wv_code.specs.Formed.{IsCounted, TakesMember, KeysAscend}
 
 pub words_same : (descriptor : List ℕ) (n m : ℕ) → HasWords descriptor n → HasWords descriptor m → n ≡ m

@@ -1,6 +1,6 @@
 -- What is written takes as many bytes as the layout has for it.
-use Rattle.std.proofs.Common.{◌≡◌, ℕ, suc, ◌+◌, ◌*◌, ◌<◌, ◌≤◌, ℤ, Bool, true, false, List, [], ◌∷◌, ◌++◌, length, refl, sym, ap, subst, ◌∙◌, arith, ◌⊎◌, inl, inr}
-use Rattle.std.specs.Prelude.{replicate, ◌==◌, ◌&&◌, not, if◌then◌else◌}
+use Rattle.std.proofs.Common.{◌≡◌, ℕ, ◌*◌, ◌<◌, ◌≤◌, ℤ, Bool, true, false, List, [], ◌∷◌, length, refl, sym, subst, ◌∙◌, arith, ◌⊎◌, inl, inr}
+use Rattle.std.specs.Prelude.{◌==◌, ◌&&◌, not, if◌then◌else◌}
 use Rattle.std.specs.List.{flat_map}
 use Rattle.std.specs.Int.{w32}
 use Rattle.std.proofs.lemmas.Bool.{eqb-true, eq-eqb}
@@ -9,12 +9,11 @@ use Rattle.wv_base.specs.declared.class_file.PoolEntry.{PoolEntry}
 use Rattle.wv_base.specs.declared.form.Form.TheVariants as form
 use Rattle.wv_base.specs.declared.insn.Insn.{Insn}
 use Rattle.wv_base.specs.declared.insn.Insn.TheVariants as insn
-use Rattle.wv_base.specs.Instructions.{form_of}
 use Rattle.wv_base.specs.Opcodes.{ldc, ldc_w, invokestatic, invokeinterface, goto_w}
 use Rattle.wv_insn.specs.declared.raw.Raw.{Raw}
 use Rattle.wv_insn.specs.declared.raw.Raw.TheVariants as raw
 use Rattle.wv_insn.specs.declared.raw.RawCase.{RawCase}
-use Rattle.wv_insn.specs.Spelling.{signed, case, padding, plain_spelling, IsInstruction}
+use Rattle.wv_insn.specs.Spelling.{signed, case, plain_spelling, IsInstruction}
 use Rattle.wv_code.specs.Size.{size}
 use Rattle.wv_code.specs.Meaning.{Means, widened}
 use Rattle.wv_code.proofs.Forms.{only}

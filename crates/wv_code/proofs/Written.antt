@@ -1,5 +1,5 @@
 -- Writing one instruction more.
-use Rattle.std.proofs.Common.{◌≡◌, ℕ, zero, suc, ◌+◌, ◌<◌, ◌≤◌, Bool, true, false, List, [], ◌∷◌, ◌++◌, length, get_or, take, Some, refl, sym, ap, subst, ◌∙◌, add-one, arith, ◌⊎◌, inl, inr}
+use Rattle.std.proofs.Common.{◌≡◌, ℕ, zero, suc, ◌+◌, ◌<◌, ◌≤◌, Bool, true, false, List, [], ◌∷◌, ◌++◌, length, get_or, take, Some, refl, sym, ap, subst, ◌∙◌, add-one, arith, inl, inr}
 use Rattle.std.specs.Prelude.{◌==◌, ◌&&◌, not, if◌then◌else◌}
 use Rattle.std.specs.List.{flat_map, AllByRecursion}
 use Rattle.std.proofs.lemmas.Bool.{eqb-true, cases_lt}
@@ -13,17 +13,16 @@ use Rattle.wv_insn.specs.declared.raw.Raw.{Raw}
 use Rattle.wv_insn.specs.Spelling.{plain_spelling, IsTyped, IsInstruction}
 use Rattle.wv_pool.specs.Adding.{Keeps}
 use Rattle.wv_pool.specs.Constants.{constant_of}
-use Rattle.wv_pool.specs.Numbers.{IsIn, Named}
+use Rattle.wv_pool.specs.Numbers.{Named}
 use Rattle.wv_pool.specs.References.{IsSound, IsPool}
 use Rattle.wv_pool.proofs.SoundPools.{constant_back}
 use Rattle.wv_pool.proofs.Putting.{number_in}
 use Rattle.wv_code.specs.declared.code_layout.CodeLayout.{CodeLayout}
-use Rattle.wv_code.specs.Constants.{constants_in, all_constants}
 use Rattle.wv_code.specs.Size.{size}
 use Rattle.wv_code.specs.Entering.{short_constant, short_constants}
-use Rattle.wv_code.specs.Laying.{HasShortNumber, IsLong, IsWidened, Takes, Stand, IsLayout}
-use Rattle.wv_code.specs.Meaning.{Means, widened}
-use Rattle.wv_code.specs.Code.{Follow, AllMean, IsCode, AreWidened}
+use Rattle.wv_code.specs.Laying.{IsLong, IsWidened, Takes, Stand, IsLayout}
+use Rattle.wv_code.specs.Meaning.{widened}
+use Rattle.wv_code.specs.Code.{Follow, AllMean, AreWidened}
 use Rattle.wv_code.specs.Writing.{IsWritten, WritesCode}
 use Rattle.wv_code.proofs.Stands.{start, takes_at, first_start, start_is, last_start, as_many}
 use Rattle.wv_code.proofs.Sizes.{written_size}

@@ -7,7 +7,7 @@ use Rattle.wv_base.specs.declared.constant.Const.TheVariants as constants
 use Rattle.wv_base.specs.declared.insn.Insn.{Insn}
 use Rattle.wv_base.specs.declared.insn.Insn.TheVariants as insn
 use Rattle.wv_base.specs.declared.insn.Case.{Case}
-use Rattle.wv_base.specs.Opcodes.{ldc, ldc_w, ldc2_w, getstatic, putfield, invokevirtual, invokestatic, invokeinterface}
+use Rattle.wv_base.specs.Opcodes.{ldc, ldc_w, ldc2_w, getstatic, invokevirtual, invokestatic, invokeinterface}
 use Rattle.wv_base.specs.Descriptor.{HasWords}
 use Rattle.wv_insn.specs.declared.raw.Raw.TheVariants as raw
 use Rattle.wv_insn.specs.Spelling.{IsInstruction}

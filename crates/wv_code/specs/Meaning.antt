@@ -1,9 +1,8 @@
 -- What an instruction of a method's code means: a constant in place of a pool number, and the index of an instruction
 -- in place of a distance in bytes.
-use Rattle.std.specs.Prelude.{◌≡◌, ℕ, ◌+◌, ◌<◌, ◌==◌, ◌&&◌, ℤ, pos, ◌+ℤ◌, Bool, true, false, List, [], ◌∷◌, length, slice_index, Some, if◌then◌else◌}
+use Rattle.std.specs.Prelude.{◌≡◌, ℕ, ◌+◌, ◌<◌, ◌==◌, ◌&&◌, ℤ, pos, ◌+ℤ◌, Bool, List, [], ◌∷◌, length, slice_index, Some, if◌then◌else◌}
 use Rattle.std.specs.List.{AllByRecursion}
 use Rattle.wv_base.specs.declared.class_file.PoolEntry.{PoolEntry}
-use Rattle.wv_base.specs.declared.constant.Const.{Const}
 use Rattle.wv_base.specs.declared.insn.Insn.{Insn}
 use Rattle.wv_base.specs.declared.insn.Insn.TheVariants as insn
 use Rattle.wv_base.specs.declared.insn.Case.{Case}

@@ -55,11 +55,15 @@ fn written(alloc: Global, insns: Items<Insn>, pool: &mut Pool) -> Result<Bytes, 
     Ok(write_insns(alloc, body.insns.as_slice(), &layout, pool)?)
 }
 
-/// One instruction of each size, and switches with each number of pad bytes.
-fn each_size(alloc: Global) -> Result<Items<Insn>, Fail> {
-    let name = Name::from_ascii(alloc, "a")?;
-    let descriptor = Name::from_ascii(alloc, "()V")?;
+/// An instruction that loads an integer.
+fn load(alloc: Global, op: u8, value: i32) -> Result<Items<Insn>, Fail> {
     let mut insns = Items::new(alloc);
+    let value = Const::Integer(value);
+    insns.push(Insn::Load { op, value })?;
+    Ok(insns)
+}
+
+fn push_constants(insns: &mut Items<Insn>) -> Result<(), Fail> {
     insns.push(Insn::Plain { op: 0 })?;
     insns.push(Insn::Push { op: 0x10, value: 1 })?;
     insns.push(Insn::Push { op: 0x11, value: 1 })?;
@@ -67,57 +71,79 @@ fn each_size(alloc: Global) -> Result<Items<Insn>, Fail> {
         let value = Const::Integer(7);
         insns.push(Insn::Load { op, value })?;
     }
+    Ok(())
+}
+
+fn push_locals(insns: &mut Items<Insn>) -> Result<(), Fail> {
     for wide in [false, true] {
-        insns.push(Insn::Local {
-            op: 0x15,
-            slot: 1,
-            wide,
-        })?;
-        insns.push(Insn::Inc {
-            slot: 1,
-            by: 1,
-            wide,
-        })?;
+        let (op, slot, by) = (0x15, 1, 1);
+        insns.push(Insn::Local { op, slot, wide })?;
+        insns.push(Insn::Inc { slot, by, wide })?;
     }
+    Ok(())
+}
+
+/// A call of `a.a:()V`.
+fn call(alloc: Global, op: u8, interface: bool) -> Result<Insn, Fail> {
+    Ok(Insn::Reference {
+        op,
+        owner: Name::from_ascii(alloc, "a")?,
+        name: Name::from_ascii(alloc, "a")?,
+        descriptor: Name::from_ascii(alloc, "()V")?,
+        interface,
+    })
+}
+
+fn site(alloc: Global) -> Result<Insn, Fail> {
+    Ok(Insn::Site {
+        bootstrap: 0,
+        name: Name::from_ascii(alloc, "a")?,
+        descriptor: Name::from_ascii(alloc, "()V")?,
+    })
+}
+
+fn push_references(alloc: Global, insns: &mut Items<Insn>) -> Result<(), Fail> {
+    insns.push(call(alloc, 0xb6, false)?)?;
+    insns.push(call(alloc, 0xb9, true)?)?;
+    insns.push(site(alloc)?)?;
+    let class = Name::from_ascii(alloc, "a")?;
+    insns.push(Insn::Class { op: 0xbb, class })?;
+    insns.push(Insn::NewArray { kind: 4 })?;
+    let (class, dimensions) = (Name::from_ascii(alloc, "[I")?, 1);
+    insns.push(Insn::MultiArray { class, dimensions })?;
+    Ok(())
+}
+
+fn table(alloc: Global) -> Result<Insn, Fail> {
+    let targets = Items::from_slice(alloc, &[0, 1])?;
+    let (low, other) = (5, 0);
+    Ok(Insn::Table {
+        low,
+        other,
+        targets,
+    })
+}
+
+fn lookup(alloc: Global) -> Result<Insn, Fail> {
+    let cases = [Case { key: -1, to: 0 }, Case { key: 2, to: 1 }];
+    let cases = Items::from_slice(alloc, &cases)?;
+    Ok(Insn::Lookup { other: 0, cases })
+}
+
+/// One instruction of each size, and switches with each number of pad bytes.
+fn each_size(alloc: Global) -> Result<Items<Insn>, Fail> {
+    let mut insns = Items::new(alloc);
+    push_constants(&mut insns)?;
+    push_locals(&mut insns)?;
     insns.push(Insn::Branch { op: 0xa7, to: 0 })?;
     insns.push(Insn::Branch { op: 0xc8, to: 0 })?;
-    for (op, interface) in [(0xb6, false), (0xb9, true)] {
-        insns.push(Insn::Reference {
-            op,
-            owner: name.copy()?,
-            name: name.copy()?,
-            descriptor: descriptor.copy()?,
-            interface,
-        })?;
-    }
-    insns.push(Insn::Site {
-        bootstrap: 0,
-        name: name.copy()?,
-        descriptor,
-    })?;
-    insns.push(Insn::Class {
-        op: 0xbb,
-        class: name,
-    })?;
-    insns.push(Insn::NewArray { kind: 4 })?;
-    insns.push(Insn::MultiArray {
-        class: Name::from_ascii(alloc, "[I")?,
-        dimensions: 1,
-    })?;
+    push_references(alloc, &mut insns)?;
     for nops in 0..4 {
         push_nops(&mut insns, nops)?;
         if nops % 2 == 0 {
-            insns.push(Insn::Table {
-                low: 5,
-                other: 0,
-                targets: Items::from_slice(alloc, &[0, 1])?,
-            })?;
+            insns.push(table(alloc)?)?;
         } else {
-            let cases = [Case { key: -1, to: 0 }, Case { key: 2, to: 1 }];
-            insns.push(Insn::Lookup {
-                other: 0,
-                cases: Items::from_slice(alloc, &cases)?,
-            })?;
+            insns.push(lookup(alloc)?)?;
         }
     }
     Ok(insns)
@@ -132,13 +158,11 @@ fn offsets_of_each_size(rt: HostRuntime) -> Result<(), Fail> {
     let layout = layout(alloc, &body, &mut pool)?;
     // Behind the opcodes at 56, 81, 110 and 135 stand 3, 2, 1 and no pad bytes: with the two targets of
     // each switch that is 1 + 3 + 12 + 8, 1 + 2 + 8 + 16, 1 + 1 + 12 + 8 and 1 + 8 + 16 bytes.
-    assert_eq!(rt;
-        layout.offsets.as_slice(),
-        &[
-            0, 1, 3, 6, 8, 11, 13, 16, 20, 26, 29, 34, 37, 42, 47, 50, 52, 56, 80, 81, 108, 109,
-            110, 132, 133, 134, 135,
-        ]
-    );
+    let offsets = [
+        0, 1, 3, 6, 8, 11, 13, 16, 20, 26, 29, 34, 37, 42, 47, 50, 52, 56, 80, 81, 108, 109, 110,
+        132, 133, 134, 135,
+    ];
+    assert_eq!(rt; layout.offsets.as_slice(), offsets.as_slice());
     assert_eq!(rt; layout.len, 160);
     Ok(())
 }
@@ -147,12 +171,10 @@ fn offsets_of_each_size(rt: HostRuntime) -> Result<(), Fail> {
 fn long_loads(rt: HostRuntime) -> Result<(), Fail> {
     let alloc = rt.alloc();
     // The integer n has the number n + 1, and 300 comes to stand behind the 299 others.
+    let mut pool = integers(alloc, 300)?;
     for (value, len) in [(254, 2), (255, 3), (299, 3), (300, 3)] {
-        let mut pool = integers(alloc, 300)?;
-        let mut insns = Items::new(alloc);
-        let value = Const::Integer(value);
-        insns.push(Insn::Load { op: 0x12, value })?;
-        assert!(rt; matches!(length(alloc, insns, &mut pool)?, Ok(found) if found == len));
+        let found = length(alloc, load(alloc, 0x12, value)?, &mut pool)?;
+        assert!(rt; matches!(found, Ok(found) if found == len));
     }
     Ok(())
 }
@@ -198,10 +220,7 @@ fn a_full_pool(rt: HostRuntime) -> Result<(), Fail> {
     let mut pool = integers(alloc, 65534)?;
     for (value, full) in [(65533, false), (65534, true)] {
         for op in [0x12, 0x13] {
-            let mut insns = Items::new(alloc);
-            let value = Const::Integer(value);
-            insns.push(Insn::Load { op, value })?;
-            let found = length(alloc, insns, &mut pool)?;
+            let found = length(alloc, load(alloc, op, value)?, &mut pool)?;
             // ldc_w needs no number here.
             assert_eq!(rt;
                 matches!(found, Err(LimitFault::PoolLarge)),

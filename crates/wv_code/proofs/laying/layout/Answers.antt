@@ -1,4 +1,4 @@
-use Rattle.std.proofs.Common.{◌≡◌, length}
+use Rattle.std.proofs.Common.{length}
 use Rattle.wv_code.proofs.laying.layout.Goals as goal
 
 pub enter_constants-requires : goal.enter_constants-requires

@@ -1,5 +1,5 @@
 use Rattle.std.proofs.lemmas.Result.{err_from_is_err_and}
-use Rattle.wv_code.specs.Constants.{constants_in, all_constants}
+use Rattle.wv_code.specs.Constants.{constants_in}
 use Rattle.wv_code.specs.Formed.{IsFormed}
 use Rattle.wv_code.proofs.Lists.{AllByRecursion-at}
 use Rattle.wv_code.proofs.Entered.{nothing, kept_on, one_or_none, is_full}
