@@ -1,6 +1,7 @@
 //! Times of parts of the loader, for the figures of docs/PERFORMANCE.md: run by hand.
 #![tactic(auto)]
 
+mod code;
 mod pool;
 
 use anyhow::Result;
@@ -13,6 +14,7 @@ fn main(rt: HostRuntime) -> Result<()> {
     let words = env::args(&rt)?.collect::<Vec<String>>(rt.alloc())?;
     match words.as_slice() {
         [_, what] if what.as_str() == "pool" => pool::time(&rt, ROUNDS),
-        _ => Ok(println!(rt; "usage: wv_bench pool")?),
+        [_, what] if what.as_str() == "code" => code::time(&rt, ROUNDS),
+        _ => Ok(println!(rt; "usage: wv_bench pool|code")?),
     }
 }

@@ -27,7 +27,7 @@ follow_more code more at [] (o ∷ offsets) end h = absurd h
 follow_more code more at (r ∷ raws) [] end h = absurd h
 follow_more code more at (r ∷ raws) (o ∷ offsets) end h = (h.0, (h.1.0, stands_more code more at r h.1.0 h.1.1, follow_more code more (at + h.1.0) raws offsets end h.1.2))
 
-follow_push : (code : List ℕ) (at : ℕ) (raws : List Raw) (offsets : List ℕ) (end len : ℕ) (r : Raw) → Follow code at raws offsets end → Stands code end r len → Follow code at (raws ++ r ∷ []) (offsets ++ end ∷ []) (end + len)
+pub follow_push : (code : List ℕ) (at : ℕ) (raws : List Raw) (offsets : List ℕ) (end len : ℕ) (r : Raw) → Follow code at raws offsets end → Stands code end r len → Follow code at (raws ++ r ∷ []) (offsets ++ end ∷ []) (end + len)
 follow_push code at [] [] end len r h s = (h, (len, subst (λ (z : ℕ). Stands code z r len) h s, ap (λ (z : ℕ). z + len) h))
 follow_push code at [] (o ∷ offsets) end len r h s = absurd h
 follow_push code at (q ∷ raws) [] end len r h s = absurd h

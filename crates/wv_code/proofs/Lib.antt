@@ -7,3 +7,4 @@ pub mod Leading
 pub mod Sizes
 pub mod Follows
 pub mod Written
+pub mod Splits

@@ -183,3 +183,17 @@ step_encoded pool insns offsets all len k at i code new r same here item lt stan
 pub loop_encoded : (pool : List PoolEntry) (insns : List Insn) (offsets : List ℕ) (layout : CodeLayout) (k : ℕ) (code : List ℕ) → offsets ≡ layout.offsets → length insns ≤ k → k ≤ length insns → IsLayout pool insns layout
     → Encoded pool insns offsets layout.len k code → WritesCode pool insns layout.offsets code × (length code ≡ layout.len)
 loop_encoded pool insns offsets layout k code same low high laid e = all_encoded pool insns layout k code low high laid (subst (λ (z : List ℕ). Encoded pool insns z layout.len k code) same e)
+
+-- ---- instructions have one layout
+
+pub one_stand : (pool : List PoolEntry) (at : ℕ) (insns : List Insn) (offsets places : List ℕ) (end last : ℕ) → Stand pool at insns offsets end → Stand pool at insns places last → (offsets ≡ places) × (end ≡ last)
+one_stand pool at [] [] [] end last h k = (refl, h ∙ sym k)
+one_stand pool at [] [] (p ∷ places) end last h k = absurd k
+one_stand pool at [] (o ∷ offsets) places end last h k = absurd h
+one_stand pool at (i ∷ insns) [] places end last h k = absurd h
+one_stand pool at (i ∷ insns) (o ∷ offsets) [] end last h k = absurd k
+one_stand pool at (i ∷ insns) (o ∷ offsets) (p ∷ places) end last h k =
+    let same : h.1.0 ≡ k.1.0 = h.1.1.2 ∙ size_same pool at i h.1.1.0 k.1.1.0 h.1.1.1 k.1.1.1 ∙ sym k.1.1.2 in
+    let rest = one_stand pool (at + h.1.0) insns offsets places end last h.1.2 (subst (λ (z : ℕ). Stand pool (at + z) insns places last) (sym same) k.1.2) in
+    let heads : o ≡ p = h.0 ∙ sym k.0 in
+    (cc (heads, rest.0), rest.1)

@@ -6,3 +6,4 @@ pub mod Laying
 pub mod Meaning
 pub mod Code
 pub mod Writing
+pub mod Splitting

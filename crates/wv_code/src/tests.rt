@@ -1,8 +1,7 @@
 use super::*;
 use std::alloc::Global;
 use std::test::*;
-use wv_base::{Body, Bytes, Case, Const, Insn, Items, LimitFault, Name};
-use wv_insn::decode;
+use wv_base::{Body, Bytes, Case, ClassFault, Const, Insn, Items, LimitFault, Name};
 use wv_pool::{Pool, read_pool};
 
 /// A pool with the integers from 0 on, so many, whose numbers begin with 1.
@@ -258,19 +257,51 @@ fn bytes_of_code(rt: HostRuntime) -> Result<(), Fail> {
     Ok(())
 }
 
-/// Each instruction is read again at its offset, up to the next.
+/// How many instructions there are, or where none goes on.
+fn split(alloc: Global, code: &[u8]) -> Result<usize, ClassFault> {
+    if code.len() > 65535 {
+        return Err(ClassFault::Memory);
+    }
+    Ok(split_code(alloc, code)?.raws.len())
+}
+
+#[test]
+fn code_cut_at_each_byte(rt: HostRuntime) {
+    let alloc = rt.alloc();
+    // iconst_0, goto -1, a tableswitch at 4 with three pad bytes, and return behind it.
+    let code = [
+        3, 0xa7, 0xff, 0xff, 0xaa, 0, 0, 0, 0, 0, 0, 20, 0, 0, 0, 1, 0, 0, 0, 1, 0, 0, 0, 20, 0xb1,
+    ];
+    let starts = [0, 1, 4, 24, 25];
+    for len in 0..=code.len() {
+        match split(alloc, &code[..len]) {
+            Ok(count) => assert_eq!(rt; starts.get(count), Some(&len)),
+            Err(ClassFault::Layout { at }) => {
+                assert!(rt; at == len && !starts.contains(&len));
+            }
+            Err(_) => assert!(rt; false),
+        }
+    }
+    // A reserved opcode, and `wide` before one that it doesn't change.
+    assert!(rt;
+        matches!(
+            split(alloc, &[0, 0xca, 0]),
+            Err(ClassFault::Layout { at: 1 })
+        )
+    );
+    assert!(rt;
+        matches!(
+            split(alloc, &[0, 0xc4, 0]),
+            Err(ClassFault::Layout { at: 2 })
+        )
+    );
+}
+
 #[test]
 fn each_size_again(rt: HostRuntime) -> Result<(), Fail> {
     let alloc = rt.alloc();
     let mut pool = integers(alloc, 0)?;
     let code = written(alloc, each_size(alloc)?, &mut pool)?;
-    let mut at = 0;
-    let mut count = 0;
-    while at < code.len() && count < 100 {
-        let (_raw, len) = decode(alloc, code.as_slice(), at)?;
-        at = at.saturating_add(len);
-        count += 1;
-    }
-    assert_eq!(rt; (at, count), (160, 27));
+    assert_eq!(rt; (code.len(), split(alloc, code.as_slice())?), (160, 27));
     Ok(())
 }
