@@ -1,9 +1,9 @@
 -- The instructions of a code array are the only ones.
-use Rattle.std.proofs.Common.{◌≡◌, ℕ, zero, suc, ◌+◌, ◌<◌, ◌≤◌, true, false, List, [], ◌∷◌, ◌++◌, length, take, drop, refl, sym, ap, subst, ◌∙◌, arith}
+use Rattle.std.proofs.Common.{◌≡◌, ℕ, zero, suc, ◌+◌, ◌<◌, ◌≤◌, true, false, List, [], ◌∷◌, length, take, drop, refl, sym, ap, subst, ◌∙◌, arith}
 use Rattle.std.proofs.lemmas.List.{take-append-drop, length-take-le, length-drop}
 use Rattle.wv_insn.specs.declared.raw.Raw.{Raw}
 use Rattle.wv_insn.specs.declared.raw.Raw.TheVariants as raw
-use Rattle.wv_insn.specs.Spelling.{spelling, Spells}
+use Rattle.wv_insn.specs.Spelling.{spelling}
 use Rattle.wv_insn.specs.Standing.{Stands}
 use Rattle.wv_insn.proofs.Directions.{one_spelling}
 use Rattle.wv_code.specs.Code.{Follow}
