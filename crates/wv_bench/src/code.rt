@@ -14,11 +14,11 @@ fn switch(alloc: Global) -> Result<Insn> {
     Ok(Insn::Lookup { other: 0, cases })
 }
 
-/// So many switches of two cases, each behind three instructions of a byte: some 30 bytes together.
+/// So many switches of two cases, each behind four instructions of a byte: 32 bytes together.
 fn switches(alloc: Global, count: usize) -> Result<Body> {
     let mut insns = Items::new(alloc);
     for _ in 0..count {
-        for _ in 0..3 {
+        for _ in 0..4 {
             insns.push(Insn::Plain { op: 0 })?;
         }
         insns.push(switch(alloc)?)?;
@@ -51,7 +51,7 @@ fn there_and_back(alloc: Global, body: &Body) -> Result<usize> {
     Ok(code.len())
 }
 
-/// Prints how long code of 250 to 2,000 switches takes, the last of some 60,000 bytes.
+/// Prints how long code of 250 to 2,000 switches takes, the last of 64,000 bytes.
 pub(crate) fn time<R: Clock + AllocGlobal + Print>(rt: &R, rounds: usize) -> Result<()> {
     for count in [250usize, 500, 1000, 2000] {
         let body = switches(rt.alloc(), count)?;
