@@ -1,6 +1,7 @@
 //! Times of parts of the loader, for the figures of docs/PERFORMANCE.md: run by hand.
 #![tactic(auto)]
 
+mod code;
 mod pool;
 mod resolve;
 
@@ -16,5 +17,7 @@ fn main(rt: HostRuntime) -> Result<()> {
         [_, what] if what.as_str() == "pool" => pool::time(&rt, ROUNDS),
         [_, what] if what.as_str() == "resolve" => resolve::time(&rt, ROUNDS),
         _ => Ok(println!(rt; "usage: wv_bench pool|resolve")?),
+        [_, what] if what.as_str() == "code" => code::time(&rt, ROUNDS),
+        _ => Ok(println!(rt; "usage: wv_bench pool|code")?),
     }
 }

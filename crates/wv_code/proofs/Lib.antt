@@ -1,0 +1,10 @@
+pub mod Lists
+pub mod Entered
+pub mod Stands
+pub mod Shapes
+pub mod Forms
+pub mod Leading
+pub mod Sizes
+pub mod Follows
+pub mod Written
+pub mod Splits

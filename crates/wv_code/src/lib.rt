@@ -1,0 +1,23 @@
+//! A method's code, and where its instructions stand (JVM Specification 4.7.3 and 4.9.1).
+#![tactic(auto)]
+
+mod code_layout;
+mod constants;
+mod entering;
+mod formed;
+mod laws;
+mod laying;
+mod opcode;
+mod size;
+mod splitting;
+mod writing;
+
+pub use code_layout::{CodeLayout, Offsets};
+pub use formed::are_formed;
+pub use laws::{one_layout, size_of_what_is_spelled};
+pub use laying::layout;
+pub use splitting::{RawCode, split_code};
+pub use writing::write_insns;
+
+#[cfg(test)]
+mod tests;
