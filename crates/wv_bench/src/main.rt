@@ -15,9 +15,8 @@ fn main(rt: HostRuntime) -> Result<()> {
     let words = env::args(&rt)?.collect::<Vec<String>>(rt.alloc())?;
     match words.as_slice() {
         [_, what] if what.as_str() == "pool" => pool::time(&rt, ROUNDS),
-        [_, what] if what.as_str() == "resolve" => resolve::time(&rt, ROUNDS),
-        _ => Ok(println!(rt; "usage: wv_bench pool|resolve")?),
         [_, what] if what.as_str() == "code" => code::time(&rt, ROUNDS),
-        _ => Ok(println!(rt; "usage: wv_bench pool|code")?),
+        [_, what] if what.as_str() == "resolve" => resolve::time(&rt, ROUNDS),
+        _ => Ok(println!(rt; "usage: wv_bench pool|code|resolve")?),
     }
 }
