@@ -1,7 +1,8 @@
 //! Reading the folder.
 ghost use Rattle.std.specs.Prelude.{◌≡◌, map, string_bytes, IfOk};
 ghost use Rattle.wv_tree.specs.Fault.{HasCause};
-ghost use Rattle.wv_tree.specs.Tree.{IsAscending};
+ghost use Rattle.wv_tree.specs.Tree.{IsAscending, paths_of};
+ghost use Rattle.wv_top.specs.Reading.{WhereTold, IsReadingOf, ReadsNext, file_at};
 
 use std::alloc::Global;
 use wv_base::{Bytes, Folder, Text};
@@ -32,6 +33,10 @@ impl Allowance {
     /// left is asked for, so that the limit is seen to be passed without reading on.
     fn read<T: Tree>(&mut self, alloc: Global, tree: &mut T, path: &str) -> Result<Vec<u8>, IoFault>
         ensures cause { HasCause result (T.faults tree.old) (T.faults tree.new) }
+        ensures name { T.name tree.new ≡ T.name tree.old }
+        ensures told { T.told tree.new ≡ T.told tree.old }
+        ensures next { IfOk result (λ bytes. WhereTold (T.told tree.old) (T.name tree.old)
+            (λ files. ReadsNext (file_at path.now files) self.old self.new bytes.items)) }
     {
         if self.passed.is_some() || !is_read(path) {
             return Ok(Vec::new(alloc));
@@ -50,6 +55,8 @@ impl Allowance {
 fn read_files<T: Tree>(alloc: Global, tree: &mut T, paths: &[String]) -> Result<Reading, IoFault>
     requires { IsAscending (map string_bytes paths.now) }
     ensures cause { HasCause result (T.faults tree.old) (T.faults tree.new) }
+    ensures read { IfOk result (λ reading. WhereTold (T.told tree.old) (T.name tree.old)
+        (λ files. paths_of files ≡ map string_bytes paths.now → IsReadingOf files reading)) }
 {
     let mut allowance = Allowance {
         left: MOST_BYTES,
@@ -76,6 +83,8 @@ pub(crate) fn read_folder<T: Tree>(
     name: &str,
 ) -> Result<Reading, IoFault>
     ensures cause { HasCause result (T.faults tree.old) (T.faults tree.new) }
+    ensures read { IfOk result (λ reading. WhereTold (T.told tree.old) name.now
+        (λ files. IsReadingOf files reading)) }
 {
     tree.enter(alloc, name)?;
     let paths = tree.list(alloc)?;
