@@ -3,3 +3,4 @@ pub mod ReadFolder
 pub mod FirstRule
 pub mod OneReading
 pub mod Weaving
+pub mod Outcome

@@ -198,14 +198,14 @@ next_read files read count old new path bytes order within long here so_far next
     let this : (path, bytes) ≡ as_read (take count files) file = ap (λ (b : List ℕ). (path, b)) step.1 ∙ ap (λ (f : File). as_read (take count files) f) same in
     record {
       each = below_more (λ i. (d : File) → slice_get (read ++ (path, bytes) ∷ []) i ≡ Some (as_read (take i files) (get_or files i d))) count
-        (λ i below d.
-            slice_get-get_or (read ++ (path, bytes) ∷ []) i d (omega (arith, length-append read ((path, bytes) ∷ [])))
-            ∙ ap Some (get_or_append_left read ((path, bytes) ∷ []) d i (omega arith))
-            ∙ sym (slice_get-get_or read i d (omega arith)) ∙ so_far.each i below d)
-        (λ d.
-            slice_get-get_or (read ++ (path, bytes) ∷ []) count d (omega (arith, length-append read ((path, bytes) ∷ [])))
-            ∙ ap Some (get_or_push read (path, bytes) d count long ∙ this
-            ∙ ap (λ (f : File). as_read (take count files) f) (get_or_default files count (path, bytes) d within)));
+          (λ i below d.
+          slice_get-get_or (read ++ (path, bytes) ∷ []) i d (omega (arith, length-append read ((path, bytes) ∷ [])))
+          ∙ ap Some (get_or_append_left read ((path, bytes) ∷ []) d i (omega arith))
+          ∙ sym (slice_get-get_or read i d (omega arith)) ∙ so_far.each i below d)
+          (λ d.
+          slice_get-get_or (read ++ (path, bytes) ∷ []) count d (omega (arith, length-append read ((path, bytes) ∷ [])))
+          ∙ ap Some (get_or_push read (path, bytes) d count long ∙ this
+          ∙ ap (λ (f : File). as_read (take count files) f) (get_or_default files count (path, bytes) d within)));
       left = subst (λ (fs : List File). IsLeft fs new.left new.passed) (sym more) step.0;
     }
 
@@ -235,9 +235,9 @@ Keeps paths count read allowance files = paths_of files ≡ paths → IsReadSoFa
 
 pub none_read : (told : Option Folders) (name : List ℕ) (paths : List (List ℕ)) (read : List File) (allowance : Allowance) → allowance.left ≡ most_read → allowance.passed ≡ None → WhereTold told name (Keeps paths 0 read allowance)
 none_read told name paths read allowance left passed = where_all told name (Keeps paths 0 read allowance) (λ files same. record {
-      each = λ i below d. absurd (omega arith);
-      left = subst (λ (p : Option (List ℕ)). IsLeft [] allowance.left p) (sym passed) (omega (arith, left));
-    })
+  each = λ i below d. absurd (omega arith);
+  left = subst (λ (p : Option (List ℕ)). IsLeft [] allowance.left p) (sym passed) (omega (arith, left));
+})
 
 -- so many files have so many paths
 pub count_of_paths : (paths : List (List ℕ)) (read : List File) (count : ℕ) → map (λ (file : File). file.0) read ≡ take count paths → count ≤ length paths → length read ≡ count
@@ -266,9 +266,9 @@ one_more_read (Some folders) name paths count read old new path bytes ascending 
 pub read_all : (told : Option Folders) (name : List ℕ) (paths : List (List ℕ)) (count : ℕ) (reading : Reading) (allowance : Allowance) → length paths ≡ count → length reading.folder ≡ count → reading.passed ≡ allowance.passed → WhereTold told name (Keeps paths count reading.folder allowance) → WhereTold told name (λ files. paths_of files ≡ paths → IsReadingOf files reading)
 read_all told name paths count reading allowance long read_long passed kept =
     where_from told name (Keeps paths count reading.folder allowance) (λ files. paths_of files ≡ paths → IsReadingOf files reading) kept (λ files keeps same.
-        let whole_length : length files ≡ count = sym (length-map files (λ (f : File). f.0)) ∙ ap length same ∙ long in
-        let so_far = keeps same in
-        record {
-          read = all_read files reading.folder allowance (read_long ∙ sym whole_length) (subst (λ (n : ℕ). IsReadSoFar n reading.folder allowance files) (sym whole_length) so_far);
-          passed = subst (IsPassed files) (sym passed) (left_passed files allowance.left allowance.passed (subst (λ (fs : List File). IsLeft fs allowance.left allowance.passed) (ap (λ (n : ℕ). take n files) (sym whole_length) ∙ take_all (length files) files (omega arith)) so_far.left));
-        })
+    let whole_length : length files ≡ count = sym (length-map files (λ (f : File). f.0)) ∙ ap length same ∙ long in
+    let so_far = keeps same in
+    record {
+      read = all_read files reading.folder allowance (read_long ∙ sym whole_length) (subst (λ (n : ℕ). IsReadSoFar n reading.folder allowance files) (sym whole_length) so_far);
+      passed = subst (IsPassed files) (sym passed) (left_passed files allowance.left allowance.passed (subst (λ (fs : List File). IsLeft fs allowance.left allowance.passed) (ap (λ (n : ℕ). take n files) (sym whole_length) ∙ take_all (length files) files (omega arith)) so_far.left));
+    })

@@ -1,10 +1,15 @@
 -- How a call of the loader ends (our own).
 use Rattle.std.specs.Prelude.{◌≡◌, ⊤, ◌⊎◌, ℕ, List, Option, Some, None}
 use Rattle.wv_tree.specs.Fault.{Rises}
-use Rattle.wv_tree.specs.Sink.{with_bytes}
+use Rattle.wv_tree.specs.Sink.{with_bytes, AddsFirst}
+use Rattle.wv_tree.specs.Tree.{Folders}
+use Rattle.wv_base.specs.Folder.{File}
 use Rattle.wv_base.specs.Line.{refusal}
 use Rattle.wv_base.specs.declared.broken.Broken.{Broken}
-use Rattle.wv_top.specs.Lines.{usage_line, summary_line}
+use Rattle.wv_model.specs.FirstForm.{FirstBrokenOf, NoneBrokenOf}
+use Rattle.wv_top.specs.Lines.{usage_line, form_summary}
+use Rattle.wv_top.specs.Reading.{WhereTold}
+use Rattle.wv_top.specs.Rules.{SomeBrokenOf}
 use Rattle.wv_top.specs.Words.{Command}
 use Rattle.wv_top.specs.declared.status.Status.{Status}
 use Rattle.wv_top.specs.declared.status.Status.TheVariants.{Done, Refused, Usage, ReadFault, WriteFault, Memory}
@@ -52,11 +57,45 @@ KeepsOutlet Done outlet now = ⊤
 KeepsOutlet WriteFault outlet now = ⊤
 KeepsOutlet Memory outlet now = ⊤
 
--- what is told of the sink's content: the line of the status, and nothing where reading fails
-abbrev pub Prints : Status → Option (List ℕ) → Option (List ℕ) → Type 0
-Prints Usage before now = now ≡ with_bytes usage_line before
-Prints Refused before now = (broken : Broken) × (now ≡ with_bytes (refusal broken) before)
-Prints Done before now = (written edited mixins hooks : ℕ) × (now ≡ with_bytes (summary_line written edited mixins hooks) before)
-Prints ReadFault before now = now ≡ before
-Prints WriteFault before now = ⊤
-Prints Memory before now = now ≡ before
+-- where the tree tells its folders: after Done the files break no rule, and after Refused they break one
+abbrev pub FitsRules : Option Command → Option Folders → Status → Type 0
+FitsRules None told status = ⊤
+FitsRules (Some command) told Done = WhereTold told command.folder NoneBrokenOf
+FitsRules (Some command) told Refused = WhereTold told command.folder SomeBrokenOf
+FitsRules (Some command) told Usage = ⊤
+FitsRules (Some command) told ReadFault = ⊤
+FitsRules (Some command) told WriteFault = ⊤
+FitsRules (Some command) told Memory = ⊤
+
+-- the line of a command where nothing fails: that of the first rule that the files break, and the summary where they
+-- break none
+pub data IsLineOf (files : List File) : List ℕ → Type 0 where
+  refuses : {broken : Broken} → FirstBrokenOf files broken → IsLineOf files (refusal broken)
+  sums_up : NoneBrokenOf files → IsLineOf files form_summary
+
+-- the line of the first broken rule was written
+abbrev pub PrintsRefusal : Command → Option Folders → Option (List ℕ) → Option (List ℕ) → Type 0
+PrintsRefusal command told before now =
+    (broken : Broken) × WhereTold told command.folder (λ files. FirstBrokenOf files broken)
+    × (now ≡ with_bytes (refusal broken) before)
+
+-- some first bytes were written of the line that the command writes where nothing fails
+abbrev pub PrintsFront : Command → Option Folders → Option (List ℕ) → Option (List ℕ) → Type 0
+PrintsFront command told before now =
+    (line : List ℕ) × WhereTold told command.folder (λ files. IsLineOf files line) × AddsFirst line before now
+
+-- what is told of the sink's content: the line of the status, first bytes of a line where writing fails, and nothing
+-- where reading fails or memory runs out
+abbrev pub Prints : Option Command → Option Folders → Status → Option (List ℕ) → Option (List ℕ) → Type 0
+Prints None told Usage before now = now ≡ with_bytes usage_line before
+Prints None told WriteFault before now = AddsFirst usage_line before now
+Prints None told Done before now = now ≡ before
+Prints None told Refused before now = now ≡ before
+Prints None told ReadFault before now = now ≡ before
+Prints None told Memory before now = now ≡ before
+Prints (Some command) told Done before now = now ≡ with_bytes form_summary before
+Prints (Some command) told Refused before now = PrintsRefusal command told before now
+Prints (Some command) told WriteFault before now = PrintsFront command told before now
+Prints (Some command) told Usage before now = now ≡ before
+Prints (Some command) told ReadFault before now = now ≡ before
+Prints (Some command) told Memory before now = now ≡ before

@@ -1,6 +1,7 @@
 pub mod Words
-pub mod Ends
 pub mod Lines
-pub mod Puts
 pub mod Reading
 pub mod Rules
+pub mod Puts
+pub mod Ends
+pub mod Unfailed

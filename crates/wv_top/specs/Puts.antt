@@ -1,8 +1,11 @@
 -- Which files a call of the loader puts (our own).
-use Rattle.std.specs.Prelude.{◌≡◌, ℕ, List, ◌++◌, map, Option, Some, None}
+use Rattle.std.specs.Prelude.{◌≡◌, ◌⊎◌, ℕ, List, ◌++◌, map, take, Option, Some, None}
 use Rattle.std.specs.Option.{option_map}
 use Rattle.wv_base.specs.Folder.{File, IsInOrder}
+use Rattle.wv_tree.specs.Tree.{Folders}
 use Rattle.wv_tree.specs.declared.outlet.PutFile.{PutFile}
+use Rattle.wv_top.specs.Reading.{WhereTold}
+use Rattle.wv_top.specs.Rules.{IsWovenOf}
 use Rattle.wv_top.specs.Words.{Command}
 use Rattle.wv_top.specs.declared.status.Status.{Status}
 use Rattle.wv_top.specs.declared.status.Status.TheVariants.{Done, Refused, Usage, ReadFault, WriteFault, Memory}
@@ -15,16 +18,29 @@ put_file name file = record { folder = name; path = file.0; bytes = file.1 }
 abbrev pub with_files : List ℕ → List File → Option (List PutFile) → Option (List PutFile)
 with_files name files told = option_map (λ before. before ++ map (put_file name) files) told
 
--- some files in the order of their paths were put under this name, and no others
-abbrev pub PutsSome : List ℕ → Option (List PutFile) → Option (List PutFile) → Type 0
-PutsSome name before now = (files : List File) × IsInOrder files × (now ≡ with_files name files before)
+-- the written files for the command's folder, in the order of their paths
+pub record AreWritten (command : Command) (told : Option Folders) (written : List File) : Type 0 where
+  pub order : IsInOrder written
+  pub meets : WhereTold told command.folder (λ files. IsWovenOf files written)
 
--- after each status: no file was put, or some were under the command's name
-abbrev pub Puts : Option Command → Status → Option (List PutFile) → Option (List PutFile) → Type 0
-Puts None status before now = now ≡ before
-Puts (Some command) Done before now = PutsSome command.out before now
-Puts (Some command) WriteFault before now = PutsSome command.out before now
-Puts (Some command) Memory before now = PutsSome command.out before now
-Puts (Some command) Refused before now = now ≡ before
-Puts (Some command) ReadFault before now = now ≡ before
-Puts (Some command) Usage before now = now ≡ before
+-- the written files were put under the command's name, and no others
+abbrev pub PutsAll : Command → Option Folders → Option (List PutFile) → Option (List PutFile) → Type 0
+PutsAll command told before now =
+    (written : List File) × AreWritten command told written × (now ≡ with_files command.out written before)
+
+-- no file was put, or some first ones of the written files were under the command's name, and no others
+abbrev pub PutsFront : Command → Option Folders → Option (List PutFile) → Option (List PutFile) → Type 0
+PutsFront command told before now =
+    (now ≡ before)
+    ⊎ ((written : List File) × (count : ℕ) × AreWritten command told written
+    × (now ≡ with_files command.out (take count written) before))
+
+-- after each status: no file was put, or all written files were, or some first ones of them
+abbrev pub Puts : Option Command → Option Folders → Status → Option (List PutFile) → Option (List PutFile) → Type 0
+Puts None told status before now = now ≡ before
+Puts (Some command) told Done before now = PutsAll command told before now
+Puts (Some command) told WriteFault before now = PutsFront command told before now
+Puts (Some command) told Memory before now = PutsFront command told before now
+Puts (Some command) told Refused before now = now ≡ before
+Puts (Some command) told ReadFault before now = now ≡ before
+Puts (Some command) told Usage before now = now ≡ before

@@ -13,6 +13,10 @@ use Rattle.wv_weave.specs.declared.weaver.Woven.{Woven}
 abbrev pub IsWovenOf : List File → List File → Type 0
 IsWovenOf files written = (folder : List File) × IsReading files folder × IsWoven folder written
 
+-- the files of a folder break a rule
+abbrev pub SomeBrokenOf : List File → Type 0
+SomeBrokenOf files = (broken : Broken) × FirstBrokenOf files broken
+
 -- the first broken rule of a folder that is read of these files; want of memory is the free answer
 abbrev pub Refuses : List File → List File → WeaveFault → Type 0
 Refuses files folder (faults.Broken broken) = FirstBroken (PassesLimit files) folder broken

@@ -1,8 +1,11 @@
 //! The top call.
-ghost use Rattle.std.specs.Prelude.{◌≡◌, OnErr};
+ghost use Rattle.std.specs.Prelude.{◌≡◌, OnOk, OnErr};
+ghost use Rattle.wv_base.specs.Line.{refusal};
+ghost use Rattle.wv_tree.specs.Fault.{HasSinkCause};
+ghost use Rattle.wv_tree.specs.Sink.{with_bytes, AddsFirst};
 ghost use Rattle.wv_top.specs.Words.{command_of, texts};
 ghost use Rattle.wv_top.specs.Puts.{Puts};
-ghost use Rattle.wv_top.specs.Ends.{FitsWords, TellsReading, TellsWriting, KeepsOutlet, Prints};
+ghost use Rattle.wv_top.specs.Ends.{FitsWords, FitsRules, TellsReading, TellsWriting, KeepsOutlet, Prints};
 
 use crate::put::put_files;
 use crate::reading::read_folder;
@@ -11,11 +14,22 @@ use crate::status::Status;
 use crate::summary::summary_line;
 use crate::words::command_of;
 use std::alloc::Global;
-use wv_base::{LINE, write_broken};
-use wv_tree::{IoFault, Outlet, Sink, Tree};
+use wv_base::{Broken, LINE, write_broken};
+use wv_tree::{IoFault, Outlet, Sink, SinkFault, Tree};
 use wv_weave::WeaveFault;
 
 const USAGE: &[u8] = b"usage: loader weave|run|list FOLDER [options] | gen NUMBER SIZE --out DIR\n";
+
+/// Writes the line of a broken rule.
+fn write_refusal<S: Sink>(sink: &mut S, broken: &Broken) -> Result<(), SinkFault>
+    ensures cause { HasSinkCause result (S.faults sink.old) (S.faults sink.new) }
+    ensures ok { OnOk result (S.told sink.new ≡ with_bytes (refusal broken.now) (S.told sink.old)) }
+    ensures err { OnErr result (AddsFirst (refusal broken.now) (S.told sink.old) (S.told sink.new)) }
+{
+    let mut line = [0; LINE];
+    let length = write_broken(broken, &mut line);
+    sink.write(&line[..length])
+}
 
 /// Does what the words say, of which the first is the program's name: `weave FOLDER --out DIR` reads
 /// the folder, weaves it, puts the written classes and writes one summary line.
@@ -29,11 +43,14 @@ pub fn loader<T: Tree, O: Outlet, S: Sink>(
     sink: &mut S,
 ) -> Status
     ensures words { FitsWords (command_of (texts words.now)) result }
+    ensures rules { FitsRules (command_of (texts words.now)) (T.told tree.old) result }
     ensures reading { TellsReading result (T.faults tree.old) (T.faults tree.new) }
     ensures writing { TellsWriting result (O.faults outlet.old) (O.faults outlet.new) (S.faults sink.old) (S.faults sink.new) }
     ensures outlet { KeepsOutlet result outlet.old outlet.new }
-    ensures puts { Puts (command_of (texts words.now)) result (O.told outlet.old) (O.told outlet.new) }
-    ensures printed { Prints result (S.told sink.old) (S.told sink.new) }
+    ensures puts { Puts (command_of (texts words.now)) (T.told tree.old) result
+        (O.told outlet.old) (O.told outlet.new) }
+    ensures printed { Prints (command_of (texts words.now)) (T.told tree.old) result
+        (S.told sink.old) (S.told sink.new) }
 {
     let Some(command) = command_of(words) else {
         return match sink.write(USAGE) {
@@ -49,9 +66,7 @@ pub fn loader<T: Tree, O: Outlet, S: Sink>(
     let woven = match weave_reading(alloc, &reading) {
         Ok(woven) => woven,
         Err(WeaveFault::Broken(broken)) => {
-            let mut line = [0; LINE];
-            let length = write_broken(&broken, &mut line);
-            return match sink.write(&line[..length]) {
+            return match write_refusal(sink, &broken) {
                 Ok(()) => Status::Refused,
                 Err(_) => Status::WriteFault,
             };

@@ -39,7 +39,7 @@ loop-path-preserved g c =
       rw c.in_ok-push.ensures.ok more,
       c.in_ok-bytes.ensures.told ∙ c.loop-path.invariant.2,
       c.in_ok-bytes.ensures.name ∙ c.loop-path.invariant.3,
-      subst (λ (folder : List File). WhereTold (g.T.Tree.told c.args.tree.now) (g.T.Tree.name c.args.tree.now) (Keeps paths (c.loop-path.path-index + 1) folder c.read.new.self)) (sym c.in_ok-push.ensures.ok) kept,
+      rw c.in_ok-push.ensures.ok kept,
     )
 
 pub returns-clause-read : goal.returns-clause-read
