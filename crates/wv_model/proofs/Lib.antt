@@ -21,3 +21,4 @@ pub mod MeaningExamples
 pub mod OnePool
 pub mod OneCode
 pub mod OneClass
+pub mod PlaceOrder

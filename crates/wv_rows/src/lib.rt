@@ -6,3 +6,7 @@
 mod assembler;
 #[cfg(test)]
 mod first_form;
+#[cfg(test)]
+mod form;
+#[cfg(test)]
+mod tables;

@@ -1,13 +1,13 @@
 -- A folder is read in one way, and one rule is the first that its files break.
-use Rattle.std.proofs.Common.{◌≡◌, ℕ, zero, suc, ◌+◌, ◌-◌, ◌<◌, ◌≤◌, ◌⊎◌, inl, inr, List, [], ◌∷◌, ◌++◌, length, get_or, take, drop, slice_get, Some, refl, sym, ap, subst, ◌∙◌, arith}
+use Rattle.std.proofs.Common.{◌≡◌, ℕ, suc, ◌+◌, ◌<◌, ◌⊎◌, inl, inr, List, [], ◌∷◌, ◌++◌, length, get_or, take, drop, refl, sym, ap, subst, ◌∙◌, arith}
 use Rattle.std.proofs.Math.Seq.{drop-cons, get_or-append_seam, take-append-add}
-use Rattle.std.proofs.lemmas.List.{ext_get_or, length-append, length-take-le, take-append-drop, take-append-le, get_or_append_left}
+use Rattle.std.proofs.lemmas.List.{ext_get_or, length-take-le, take-append-drop, take-append-le}
 use Rattle.std.proofs.lemmas.List.Sums.{sum_by-take-le}
 use Rattle.std.proofs.lemmas.Option.{get_or_from_slice_get}
 use Rattle.wv_base.specs.Folder.{File}
 use Rattle.wv_base.specs.declared.broken.Broken.{Broken}
-use Rattle.wv_model.specs.FirstForm.{ArePlaces, BreaksForm, BreaksLayout, BreaksOverwrite, FirstBroken, FirstBrokenOf, Holds, IsFirstPlace, NoneBroken, NoneBrokenOf, out_of_form, form_broken, layout_broken, overwrite_broken}
-use Rattle.wv_model.specs.FolderRead.{PassesLimit, IsReading, as_read, is_read, read_size, most_read}
+use Rattle.wv_model.specs.FirstForm.{BreaksForm, BreaksLayout, BreaksOverwrite, FirstBroken, FirstBrokenOf, Holds, IsFirstPlace, NoneBroken, NoneBrokenOf, out_of_form, form_broken, layout_broken, overwrite_broken}
+use Rattle.wv_model.specs.FolderRead.{PassesLimit, IsReading, as_read, read_size}
 use Rattle.wv_weave.specs.declared.fault.WeaveFault.{WeaveFault}
 use Rattle.wv_weave.specs.declared.fault.WeaveFault.TheVariants as faults
 use Rattle.wv_top.specs.Rules.{Refuses, RefusesAt}

@@ -1,5 +1,5 @@
 -- What a call of the loader answers, of what was read and woven.
-use Rattle.std.proofs.Common.{◌≡◌, ℕ, List, [], ◌∷◌, ◌++◌, take, length, arith, Result, Ok, Err, Option, Some, None, refl, sym, ap, subst, ◌∙◌, inl, inr}
+use Rattle.std.proofs.Common.{◌≡◌, ℕ, List, [], take, length, arith, Result, Option, Some, None, refl, sym, ap, subst, ◌∙◌, inr}
 use Rattle.std.proofs.lemmas.List.{append-nil, take_all}
 use Rattle.wv_base.specs.Folder.{File, IsInOrder}
 use Rattle.wv_base.specs.Line.{refusal}
@@ -12,7 +12,7 @@ use Rattle.wv_weave.specs.declared.fault.WeaveFault.{WeaveFault}
 use Rattle.wv_weave.specs.declared.weaver.Woven.{Woven}
 use Rattle.wv_weave.specs.Woven.{IsOneEdit}
 use Rattle.wv_top.specs.declared.reading.Reading.{Reading}
-use Rattle.wv_top.specs.declared.status.Status.TheVariants.{Done, Refused, Usage, ReadFault, WriteFault, Memory}
+use Rattle.wv_top.specs.declared.status.Status.TheVariants.{Done, Refused, Usage, WriteFault, Memory}
 use Rattle.wv_top.specs.Words.{Command}
 use Rattle.wv_top.specs.Lines.{usage_line, summary_line, form_summary}
 use Rattle.wv_top.specs.Reading.{WhereTold, IsReadingOf}

@@ -1,20 +1,16 @@
 -- A folder is read file by file, within the limit of bytes.
-use Rattle.std.proofs.Common.{◌≡◌, ℕ, zero, suc, ◌+◌, ◌-◌, ◌<◌, ◌≤◌, min, Bool, true, false, not, ◌&&◌, ◌||◌, cond, IsTrue, List, [], ◌∷◌, ◌++◌, length, get_or, take, map, AllPairs, Option, Some, None, is_some, unwrap_or, slice_get, refl, sym, ap, subst, ◌∙◌, arith, append_assoc, below_more}
-use Rattle.std.specs.Prelude.{nat_le}
+use Rattle.std.proofs.Common.{◌≡◌, ℕ, ◌+◌, ◌<◌, ◌≤◌, true, cond, List, [], ◌∷◌, ◌++◌, length, get_or, take, map, AllPairs, Option, Some, None, unwrap_or, slice_get, refl, sym, ap, subst, ◌∙◌, arith, below_more}
 use Rattle.std.specs.Cmp.Lexicographic.{slice_cmp}
-use Rattle.std.specs.List.{sum_by}
 use Rattle.std.specs.Ordering.{nat_cmp, is_eq}
 use Rattle.std.specs.declared.cmp.Ordering.{Ordering}
 use Rattle.std.specs.declared.cmp.Ordering.TheVariants.{Less, Equal, Greater}
-use Rattle.std.proofs.Math.Nat.{eq-or-lt_of_le}
 use Rattle.std.proofs.Math.Seq.{get_or-append_seam, take-append_seam}
-use Rattle.std.proofs.lemmas.Bool.{leb-true, le-leb}
-use Rattle.std.proofs.lemmas.List.{get_or_default, get_or-map, get_or_push, get_or_append_left, length-append, length-map, length-take, length-take-le, take_all, take_more}
+use Rattle.std.proofs.lemmas.List.{get_or_default, get_or-map, get_or_push, get_or_append_left, length-append, length-map, length-take-le, take_all, take_more}
 use Rattle.std.proofs.lemmas.List.Sums.{sum_by-append, sum_by-cons, sum_by_push}
 use Rattle.std.proofs.lemmas.Map.Text.{is_eq-slice_cmp}
 use Rattle.std.proofs.lemmas.Slice.Eq.{bytes_eq-Decides}
-use Rattle.std.proofs.lemmas.Option.{slice_get-get_or, get_or_from_slice_get}
-use Rattle.wv_base.specs.Folder.{File, IsPathBefore, IsInOrder, content_of}
+use Rattle.std.proofs.lemmas.Option.{slice_get-get_or}
+use Rattle.wv_base.specs.Folder.{File, IsPathBefore, IsInOrder}
 use Rattle.wv_base.proofs.PathOrder.{content_of-at}
 use Rattle.wv_tree.specs.Tree.{Folders, paths_of}
 use Rattle.wv_model.specs.FolderRead.{PassesLimit, IsReading, as_read, is_read, read_size, most_read}
@@ -43,9 +39,6 @@ size file = cond (is_read file.0) (length file.1) 0
 pub size-read : (file : File) → is_read file.0 ≡ true → size file ≡ length file.1
 size-read file read = rw read refl
 
-size-unread : (file : File) → is_read file.0 ≡ false → size file ≡ 0
-size-unread file unread = rw unread refl
-
 pub read_size-more : (before : List File) (file : File) → read_size (before ++ file ∷ []) ≡ read_size before + size file
 read_size-more before file = sum_by_push size before file
 
@@ -59,107 +52,6 @@ passed_size files path passed =
     let whole : read_size files ≡ read_size passed.before + (size (path, passed.content) + read_size passed.after) = ap read_size passed.parted ∙ read_size-parts passed.before passed.after (path, passed.content) in
     let this : size (path, passed.content) ≡ length passed.content = size-read (path, passed.content) passed.is_read in
     omega (arith, passed.passes)
-
--- and so have they with one file more
-passes_on : (before : List File) (file : File) (path : List ℕ) → PassesLimit before path → PassesLimit (before ++ file ∷ []) path
-passes_on before file path passed =
-    record {
-      before = passed.before;
-      content = passed.content;
-      after = passed.after ++ file ∷ [];
-      parted = ap (λ (files : List File). files ++ file ∷ []) passed.parted ∙ append_assoc passed.before ((path, passed.content) ∷ passed.after) (file ∷ []);
-      is_read = passed.is_read;
-      fits = passed.fits;
-      passes = passed.passes;
-    }
-
-not_below : (a b : ℕ) → b < a → nat_le a b ≡ false
-not_below a b less = by (nat_le a b) refl
-  where
-    by : (r : Bool) → nat_le a b ≡ r → r ≡ false
-    by true e = absurd (omega (arith, leb-true a b e))
-    by false e = refl
-
-cut : (a b : Bool) (bytes : List ℕ) → b ≡ false → cond (a && b) bytes [] ≡ []
-cut true b bytes e = rw e refl
-cut false b bytes e = refl
-
-unread_cut : (a b : Bool) (bytes : List ℕ) → a ≡ false → cond (a && b) bytes [] ≡ []
-unread_cut a b bytes e = rw e refl
-
-whole : (a b : Bool) (bytes : List ℕ) → a ≡ true → b ≡ true → cond (a && b) bytes [] ≡ bytes
-whole a b bytes e f = rw (e, f) refl
-
--- ---- One file
-
-skips-passed : (before : List File) (file : File) (path : List ℕ) → PassesLimit before path → (as_read before file).1 ≡ []
-skips-passed before file path passed =
-    cut (is_read file.0) (nat_le (read_size before + length file.1) most_read) file.1
-    (not_below (read_size before + length file.1) most_read (omega (arith, passed_size before path passed)))
-
-skips_with : (file : File) (left : ℕ) (passed : Option (List ℕ)) (before : List File) → (is_some passed || not (is_read file.0)) ≡ true → IsLeft before left passed → IsLeft (before ++ file ∷ []) left passed × ([] ≡ (as_read before file).1)
-skips_with file left (Some path) before test so_far =
-    (passes_on before file path so_far, sym (skips-passed before file path so_far))
-skips_with file left None before test so_far = by (is_read file.0) refl test
-  where
-    by : (r : Bool) → is_read file.0 ≡ r → not r ≡ true → (left + read_size (before ++ file ∷ []) ≡ most_read) × ([] ≡ (as_read before file).1)
-    by true read e = cc
-    by false unread e = (
-      omega (arith, read_size-more before file, size-unread file unread, so_far),
-      sym (unread_cut (is_read file.0) (nat_le (read_size before + length file.1) most_read) file.1 unread),
-    )
-
--- a file that isn't read, or comes behind the limit, has no bytes
-pub skips : (file : File) (old : Allowance) → (is_some old.passed || not (is_read file.0)) ≡ true → ReadsNext file old old []
-skips file old test before so_far = skips_with file old.left old.passed before test so_far
-
-not_skipped : (passed : Option (List ℕ)) (r : Bool) → (is_some passed || not r) ≡ false → (passed ≡ None) × (r ≡ true)
-not_skipped None true e = (refl, refl)
-not_skipped None false e = cc
-not_skipped (Some path) r e = cc
-
--- a file that has more bytes than are left passes the limit, and has no bytes
-overflows : (path content : List ℕ) (left : ℕ) (before : List File) → is_read path ≡ true → left < length content → left + read_size before ≡ most_read → PassesLimit (before ++ (path, content) ∷ []) path × ([] ≡ (as_read before (path, content)).1)
-overflows path content left before read more so_far = (
-  record {
-    before = before;
-    content = content;
-    after = [];
-    parted = refl;
-    is_read = read;
-    fits = omega (arith, so_far);
-    passes = omega (arith, so_far, more);
-  },
-  sym (cut (is_read path) (nat_le (read_size before + length content) most_read) content (not_below (read_size before + length content) most_read (omega (arith, so_far, more)))),
-)
-
--- a file that has no more bytes than are left is read
-fits : (path content : List ℕ) (left : ℕ) (before : List File) → is_read path ≡ true → length content ≤ left → left + read_size before ≡ most_read → ((left - length content) + read_size (before ++ (path, content) ∷ []) ≡ most_read) × (content ≡ (as_read before (path, content)).1)
-fits path content left before read no_more so_far = (
-  omega (arith, read_size-more before (path, content), size-read (path, content) read, so_far, no_more),
-  sym (whole (is_read path) (nat_le (read_size before + length content) most_read) content read (le-leb (read_size before + length content) most_read (omega (arith, so_far, no_more)))),
-)
-
-take_whole : (n : ℕ) (content : List ℕ) → length (take n content) < n → take n content ≡ content
-take_whole n content short = take_all n content (omega (arith, length-take n content, short))
-
-pub reads_over : (file : File) (old new : Allowance) (most : ℕ) (bytes : List ℕ) → (is_some old.passed || not (is_read file.0)) ≡ false → bytes ≡ take most file.1 → old.left < length bytes → new.passed ≡ Some file.0 → ReadsNext file old new []
-reads_over file old new most bytes test front over passed before so_far =
-    let parts = not_skipped old.passed (is_read file.0) test in
-    let left : old.left + read_size before ≡ most_read = subst (λ (p : Option (List ℕ)). IsLeft before old.left p) parts.0 so_far in
-    let more : old.left < length file.1 = omega (arith, ap length front, length-take most file.1, over) in
-    let step = overflows file.0 file.1 old.left before parts.1 more left in
-    (subst (λ (p : Option (List ℕ)). IsLeft (before ++ file ∷ []) new.left p) (sym passed) step.0, step.1)
-
-pub reads_whole : (file : File) (old new : Allowance) (most top : ℕ) (bytes : List ℕ) → (is_some old.passed || not (is_read file.0)) ≡ false → most ≡ min (old.left + 1) top → most_read < top → bytes ≡ take most file.1 → length bytes ≤ old.left → new.left ≡ old.left - length bytes → new.passed ≡ old.passed → ReadsNext file old new bytes
-reads_whole file old new most top bytes test asked high front within left_now passed_now before so_far =
-    let parts = not_skipped old.passed (is_read file.0) test in
-    let left : old.left + read_size before ≡ most_read = subst (λ (p : Option (List ℕ)). IsLeft before old.left p) parts.0 so_far in
-    let same : bytes ≡ file.1 = front ∙ take_whole most file.1 (omega (arith, ap length front, left, within, asked, high)) in
-    let step = fits file.0 file.1 old.left before parts.1 (omega (arith, ap length same, within)) left in (
-      rw (passed_now, parts.0, left_now, same) step.0,
-      same ∙ step.1,
-    )
 
 -- ---- All files
 

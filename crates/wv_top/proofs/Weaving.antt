@@ -1,5 +1,5 @@
 -- What a weave of the folder that is read answers of the files that it is read of.
-use Rattle.std.proofs.Common.{◌≡◌, ℕ, List, Result, Ok, Err, IfOk, Option, None, Some, refl, sym, ap, subst}
+use Rattle.std.proofs.Common.{◌≡◌, ℕ, List, Result, Ok, Err, IfOk, refl}
 use Rattle.wv_base.specs.Folder.{File}
 use Rattle.wv_base.specs.declared.broken.Broken.{Broken}
 use Rattle.wv_model.specs.FirstForm.{FirstBroken, NoneBroken, Unlimited}

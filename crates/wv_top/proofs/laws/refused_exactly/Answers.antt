@@ -1,7 +1,6 @@
 use Rattle.std.proofs.Common.{inl, inr}
 use Rattle.wv_tree.specs.Tree.{Folders}
 use Rattle.wv_top.specs.Words.{Command}
-use Rattle.wv_top.specs.Ends.{FitsWords}
 use Rattle.wv_top.specs.Unfailed.{EndsUnfailed, Decides, refused, done, starved}
 use Rattle.wv_top.specs.declared.status.Status.{Status}
 use Rattle.wv_top.specs.declared.status.Status.TheVariants.{Done, Refused, Usage, ReadFault, WriteFault, Memory}

@@ -1,10 +1,9 @@
-use Rattle.std.proofs.Common.{◌≡◌, ◌+◌, ◌<◌, List, ℕ, String, Global, length, get_or, map, string_bytes, refl, sym, ap, subst, ◌∙◌, arith}
+use Rattle.std.proofs.Common.{◌≡◌, ◌<◌, List, ℕ, String, Global, length, get_or, map, string_bytes, refl, sym, ap, ◌∙◌, arith}
 use Rattle.std.proofs.lemmas.List.{get_or-map, length-map}
 use Rattle.wv_base.specs.Folder.{File}
 use Rattle.wv_model.specs.FolderRead.{most_read}
-use Rattle.wv_top.specs.Reading.{WhereTold}
 use Rattle.wv_top.proofs.Paths.{next-after_all, paths-more}
-use Rattle.wv_top.proofs.ReadFolder.{Keeps, count_of_paths, next_told, none_read, one_more_read, read_all}
+use Rattle.wv_top.proofs.ReadFolder.{count_of_paths, next_told, none_read, one_more_read, read_all}
 use Rattle.wv_top.proofs.reading.read_files.Goals as goal
 
 -- the bytes of a word of a list stand at its place among those of all

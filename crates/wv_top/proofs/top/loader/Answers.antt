@@ -1,7 +1,7 @@
-use Rattle.std.proofs.Common.{◌≡◌, Ok, Err, length, refl, sym, ap, subst, ◌∙◌}
+use Rattle.std.proofs.Common.{Ok, Err, length, ◌∙◌}
 use Rattle.wv_weave.specs.declared.fault.WeaveFault.TheVariants as faults
 use Rattle.wv_top.specs.Words.{Command, command_of, texts}
-use Rattle.wv_top.specs.Lines.{usage_line, form_summary}
+use Rattle.wv_top.specs.Lines.{usage_line}
 use Rattle.wv_top.proofs.Outcome.{usage_printed, usage_failed, weaves_told, refused_rules, failed_rules, refused_printed, refusal_failed, done_rules, done_puts, failed_puts, starved_puts, summary_failed, puts_failed, all_added, form_line}
 use Rattle.wv_top.proofs.top.loader.Goals as goal
 use Rattle.wv_top.proofs.top.loader.Goals.{in-Ok-write_refusal, in-Err-write_refusal}

@@ -1,0 +1,208 @@
+//! Folders of the first form, and calls of the loader over them.
+
+use crate::assembler::{Class, Method, Op, RETURN, assemble};
+use std::alloc::{AllocError, Global};
+use std::process::Abort;
+use std::test::Fail;
+use wv_base::{Bytes, Folder, Text};
+use wv_top::{Status, loader};
+use wv_tree::{MemOutlet, MemSink, MemTree};
+
+const GAME: &str = r#"{"id":"game","version":"1.0.0","main":"app/Main"}"#;
+
+const CONFIG: &str = r#"{"package":"alpha.mixin","mixins":["MainMixin"]}"#;
+
+const ALPHA: &str =
+    r#"{"schemaVersion":1,"id":"alpha","version":"1.0.0","mixins":["alpha.mixins.json"]}"#;
+
+pub(crate) const MAIN_CLASS: &str = "game/app/Main.class";
+
+pub(crate) const MIXIN_CLASS: &str = "mods/alpha/alpha/mixin/MainMixin.class";
+
+pub(crate) const WOVEN: &str = "woven 1 classes, 1 edited, 1 mixins, 0 hooks\n";
+
+/// A file of a folder.
+#[derive(Drop)]
+pub(crate) struct File {
+    pub(crate) path: &'static str,
+    pub(crate) bytes: Vec<u8>,
+}
+
+fn method<'a>(name: &'a str, code: &'a [Op<'a>]) -> Method<'a> {
+    Method {
+        name,
+        descriptor: "()V",
+        code,
+        overwrites: false,
+    }
+}
+
+/// `app/Main`, whose `main` calls `f`, which does nothing.
+pub(crate) fn main_class(alloc: Global) -> Result<Vec<u8>, AllocError> {
+    let call = [Op::Call("app/Main", "f"), RETURN];
+    let main = Method {
+        descriptor: "([Ljava/lang/String;)V",
+        ..method("main", &call)
+    };
+    let methods = [main, method("f", &[RETURN])];
+    let class = Class {
+        name: "app/Main",
+        target: None,
+        methods: &methods,
+    };
+    assemble(alloc, class)
+}
+
+/// The mixin, with one method that has this code.
+pub(crate) fn mixin_class(
+    alloc: Global,
+    name: &str,
+    code: &[Op<'_>],
+) -> Result<Vec<u8>, AllocError> {
+    let methods = [Method {
+        overwrites: true,
+        ..method(name, code)
+    }];
+    let class = Class {
+        name: "alpha/mixin/MainMixin",
+        target: Some("Lapp/Main;"),
+        methods: &methods,
+    };
+    assemble(alloc, class)
+}
+
+pub(crate) const PRINTS_SEVEN: [Op<'static>; 4] = [Op::Out, Op::Push(7), Op::Println, RETURN];
+
+/// The five files of the form, with this mixin, and the files besides.
+pub(crate) fn files(
+    alloc: Global,
+    mixin: Vec<u8>,
+    besides: Option<File>,
+) -> Result<Vec<File>, AllocError> {
+    let mut files = Vec::new(alloc);
+    if let Some(file) = besides {
+        files.push(file)?;
+    }
+    let texts = [
+        ("game/game.json", GAME),
+        ("mods/alpha/alpha.mixins.json", CONFIG),
+        ("mods/alpha/fabric.mod.json", ALPHA),
+    ];
+    for (path, text) in texts {
+        let bytes = Vec::from_slice(alloc, text.as_bytes())?;
+        files.push(File { path, bytes })?;
+    }
+    files.push(File {
+        path: MAIN_CLASS,
+        bytes: main_class(alloc)?,
+    })?;
+    files.push(File {
+        path: MIXIN_CLASS,
+        bytes: mixin,
+    })?;
+    files.sort_by_key(|file| file.path.as_bytes())?;
+    Ok(files)
+}
+
+/// The files as a folder, which are in order of their paths.
+pub(crate) fn folder(rt: &(impl Abort + AllocGlobal), files: Vec<File>) -> Result<Folder, Fail> {
+    let alloc = rt.alloc();
+    let mut folder = Folder::new(alloc);
+    for file in files {
+        let path = Text::from_str(alloc, file.path)?;
+        assert!(rt; folder.takes(&path));
+        folder.push(path, Bytes::from_vec(file.bytes))?;
+    }
+    Ok(folder)
+}
+
+/// What a call of the loader left.
+#[derive(Drop)]
+pub(crate) struct Outcome {
+    pub(crate) status: Status,
+    pub(crate) printed: Vec<u8>,
+    pub(crate) put: Vec<Put>,
+}
+
+/// A file that was put.
+#[derive(Drop)]
+pub(crate) struct Put {
+    pub(crate) folder: Vec<u8>,
+    pub(crate) path: Vec<u8>,
+    pub(crate) bytes: Vec<u8>,
+}
+
+fn put_files(alloc: Global, outlet: &MemOutlet) -> Result<Vec<Put>, AllocError> {
+    let mut files = Vec::new(alloc);
+    for file in outlet.files() {
+        files.push(Put {
+            folder: Vec::from_slice(alloc, file.folder.as_bytes())?,
+            path: Vec::from_slice(alloc, file.path.as_bytes())?,
+            bytes: Vec::from_slice(alloc, file.bytes.as_slice())?,
+        })?;
+    }
+    Ok(files)
+}
+
+/// The calls, by their numbers from 1, at which the outside fails.
+#[derive(Clone, Copy)]
+pub(crate) struct Failing {
+    pub(crate) tree: u64,
+    pub(crate) outlet: u64,
+    pub(crate) sink: u64,
+}
+
+pub(crate) const NONE: Failing = Failing {
+    tree: 0,
+    outlet: 0,
+    sink: 0,
+};
+
+fn words(alloc: Global, words: &[&str]) -> Result<Vec<String>, AllocError> {
+    words
+        .iter()
+        .map(|word| String::from_str(alloc, word))
+        .try_collect(alloc)
+}
+
+/// Calls the loader with these words over the folder `f`.
+pub(crate) fn run(
+    rt: &(impl Abort + AllocGlobal),
+    arguments: &[&str],
+    files: Vec<File>,
+    failing: Failing,
+) -> Result<Outcome, Fail> {
+    let alloc = rt.alloc();
+    let name = Text::from_str(alloc, "f")?;
+    let folder = folder(rt, files)?;
+    let mut tree = MemTree::new(
+        alloc,
+        name,
+        folder,
+        Vec::from_slice(alloc, &[failing.tree])?,
+    );
+    let mut outlet = MemOutlet::new(alloc, Vec::from_slice(alloc, &[failing.outlet])?);
+    let mut sink = MemSink::new(alloc, 8192, Vec::from_slice(alloc, &[failing.sink])?)?;
+    let words = words(alloc, arguments)?;
+    let status = loader(alloc, words.as_slice(), &mut tree, &mut outlet, &mut sink);
+    Ok(Outcome {
+        status,
+        printed: Vec::from_slice(alloc, sink.bytes())?,
+        put: put_files(alloc, &outlet)?,
+    })
+}
+
+pub(crate) const WEAVE: [&str; 5] = ["loader", "weave", "f", "--out", "o"];
+
+/// That `weave f --out o` refuses the files with this line, and puts nothing.
+pub(crate) fn refuses(
+    rt: &(impl Abort + AllocGlobal),
+    files: Vec<File>,
+    line: &str,
+) -> Result<(), Fail> {
+    let outcome = run(rt, &WEAVE, files, NONE)?;
+    assert_eq!(rt; outcome.printed.as_slice(), line.as_bytes());
+    assert_eq!(rt; outcome.status, Status::Refused);
+    assert!(rt; outcome.put.is_empty());
+    Ok(())
+}
