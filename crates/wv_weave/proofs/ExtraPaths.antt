@@ -51,11 +51,11 @@ and_whole false b e other = cc
 abbrev pub is_extra : List ℕ → Bool
 is_extra path = counts path && not (is_form_path path)
 
-is_extra-from : (folder : List File) (path : List ℕ) → IsExtra folder path → is_extra path ≡ true
+pub is_extra-from : (folder : List File) (path : List ℕ) → IsExtra folder path → is_extra path ≡ true
 is_extra-from folder path extra =
     and_whole (counts path) (is_form_path path) extra.counts (λ e. extra.other (test_among form_paths path e))
 
-extra-from : (folder : List File) (path content : List ℕ) → is_extra path ≡ true → content_of path folder ≡ Some content → IsExtra folder path
+pub extra-from : (folder : List File) (path content : List ℕ) → is_extra path ≡ true → content_of path folder ≡ Some content → IsExtra folder path
 extra-from folder path content e present =
     let parts = and_parts (counts path) (is_form_path path) e in
     record {
@@ -95,7 +95,7 @@ mapped_some f None y e = cc
 mapped_some f (Some x) y e = (x, refl)
 
 -- the file with a path stands at some place
-place_of : (folder : List File) (path content : List ℕ) → content_of path folder ≡ Some content → (k : ℕ) × (k < length folder) × ((d : File) → (get_or folder k d).0 ≡ path)
+pub place_of : (folder : List File) (path content : List ℕ) → content_of path folder ≡ Some content → (k : ℕ) × (k < length folder) × ((d : File) → (get_or folder k d).0 ≡ path)
 place_of folder path content e =
     let file = mapped_some (λ (f : File). f.1) (find (λ (f : File). bytes_eq f.0 path) folder) content e in
     let found = found_at (λ (f : File). bytes_eq f.0 path) folder file.0 file.1 in

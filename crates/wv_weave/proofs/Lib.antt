@@ -25,3 +25,4 @@ pub mod PoolFinds
 pub mod MethodKeys
 pub mod PlainReads
 pub mod MergedClasses
+pub mod OutsidePlaces

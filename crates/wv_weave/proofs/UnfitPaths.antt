@@ -117,7 +117,7 @@ module _ (folder : List File) (game mixin : ClassRead) where
   Fits (suc (suc (suc (suc k)))) = content_of (json 2).0 folder ≡ Some (json 2).1
 
   -- where the unfit path stands among them
-  abbrev Place : List ℕ → Type 0
+  abbrev pub Place : List ℕ → Type 0
   Place path = (k : ℕ) × (k < 5) × (path ≡ nth k) × (Fits k → ⊥)
 
   json_place : (path text : List ℕ) (i : ℕ) → i < 3 → (path, text) ≡ get_or json_files i (path, text) → (content_of path folder ≡ Some text → ⊥) → Place path
@@ -129,7 +129,7 @@ module _ (folder : List File) (game mixin : ClassRead) where
       (4, lit< tt, ap (λ (f : File). f.0) same, λ fits. misses (subst (λ (f : File). content_of f.0 folder ≡ Some f.1) (sym same) fits))
   json_place path text (suc (suc (suc i))) within same misses = absurd (omega arith)
 
-  place_of : (path : List ℕ) → IsUnfit folder game mixin path → Place path
+  pub place_of : (path : List ℕ) → IsUnfit folder game mixin path → Place path
   place_of path (inl json) = json_place path json.0 json.1.0 json.1.1.0 json.1.1.1 json.2
   place_of path (inr (inl outside)) = (0, lit< tt, outside.0, λ fits. fits outside.1)
   place_of path (inr (inr outside)) = (3, lit< tt, outside.0, λ fits. fits outside.1)

@@ -1,5 +1,6 @@
 use Rattle.std.proofs.Common.{refl}
 use Rattle.wv_weave.proofs.UnfitPaths.{out_of_misplaced}
+use Rattle.wv_weave.proofs.OutsidePlaces as places
 use Rattle.wv_weave.proofs.weaver.weave.Goals as goal
 
 pub returns-in_ok-refused_form-in-Some-clause-form : goal.returns-in_ok-refused_form-in-Some-clause-form
