@@ -26,3 +26,5 @@ pub mod MethodKeys
 pub mod PlainReads
 pub mod MergedClasses
 pub mod OutsidePlaces
+pub mod RulePlaces
+pub mod WeaveAnswers

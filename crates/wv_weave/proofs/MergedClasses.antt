@@ -1,8 +1,9 @@
 -- A plain class of the game as the methods of a plain mixin overwrite it.
-use Rattle.std.proofs.Common.{◌≡◌, ℕ, ◌+◌, ◌<◌, ◌≤◌, false, List, [], ◌∷◌, length, get_or, Err, refl, sym, ap, subst, ◌⊎◌, inl, inr, arith}
+use Rattle.std.proofs.Common.{◌≡◌, ℕ, zero, suc, ◌∙◌, ◌+◌, ◌<◌, ◌≤◌, false, List, [], ◌∷◌, length, get_or, Err, refl, sym, ap, subst, ◌⊎◌, inl, inr, arith}
 use Rattle.std.specs.Prelude.{All, Contains, encode_utf8_all, nat_le}
 use Rattle.std.specs.List.{AllByRecursion, AllZip}
 use Rattle.std.proofs.lemmas.Bool.Decides.{nat_tests}
+use Rattle.std.proofs.lemmas.Option.{slice_get_within, get_or_from_slice_get}
 use Rattle.std.proofs.lemmas.Str.{encode_ascii}
 use Rattle.std.specs.Char.Utf16.{is_high_surrogate}
 use Rattle.wv_base.specs.declared.broken.Broken.{Broken}
@@ -16,7 +17,7 @@ use Rattle.wv_model.specs.PlainCode.{Game, Mixin}
 use Rattle.wv_model.specs.PlainClass.{AreSame, SpellsMethod, IsPlainClass}
 use Rattle.wv_weave.specs.declared.fault.WeaveFault.{WeaveFault}
 use Rattle.wv_weave.specs.declared.fault.WeaveFault.TheVariants as faults
-use Rattle.wv_weave.specs.Merging.{Fits, HasPlainNames, IsMissing, Merges}
+use Rattle.wv_weave.specs.Merging.{Fits, NoneMissing, HasPlainNames, IsMissing, Merges}
 use Rattle.wv_weave.specs.Overwrite.{IsTarget, IsOverwrite}
 use Rattle.wv_weave.specs.Writing.{IsClassBytes, IsOverwritten}
 use Rattle.wv_weave.proofs.PlainPools.{plain_text}
@@ -126,7 +127,28 @@ pub turn_fails : (game mixin now : ClassFile) (index : ℕ) (fault : WeaveFault)
 turn_fails game mixin now index fault over only turns content other read mixed =
     merges_memory game mixin fault (only (fits game mixin content other read mixed now (last_turn game mixin content other read mixed now index over (turns content other read mixed))))
 
+-- a list of one has one element
+one_only : (xs : List Member) (a b : Member) → length xs ≡ 1 → Contains xs a → Contains xs b → a ≡ b
+one_only [] a b one first second = absurd (omega arith)
+one_only (x ∷ []) a b one first second = sym (only first) ∙ only second
+  where
+    only : {y : Member} → Contains (x ∷ []) y → x ≡ y
+    only {y} found = at found.0 found.1 found.2
+      where
+        at : (k : ℕ) → k < 1 → get_or (x ∷ []) k y ≡ y → x ≡ y
+        at zero within e = e
+        at (suc k) within e = absurd (omega arith)
+one_only (x ∷ y ∷ xs) a b one first second = absurd (omega arith)
+
+none_missing : (game mixin now : ClassFile) → IsOverwritten game mixin now → NoneMissing game mixin
+none_missing game mixin now is method there missing =
+    let same : is.origin ≡ method = one_only mixin.methods is.origin method is.is_mixin.plain.of_role is.of_mixin there in
+    let at = is.target.at in
+    let within = slice_get_within game.methods is.place is.target.old at in
+    missing is.target.old (is.place, within, get_or_from_slice_get game.methods is.place is.target.old is.target.old at) (subst (AreSame is.target.old) same is.target.same)
+
 pub turn_ends : (game mixin now : ClassFile) (index : ℕ) (bytes : List ℕ) → length mixin.methods ≤ index → IsClassBytes now bytes → Turns game mixin now index
-    → (content other : List ℕ) → IsPlainClass Game content game → IsPlainClass Mixin other mixin → IsWritten game mixin ((written_path, bytes) ∷ [])
+    → (content other : List ℕ) → IsPlainClass Game content game → IsPlainClass Mixin other mixin → IsWritten game mixin ((written_path, bytes) ∷ []) × NoneMissing game mixin
 turn_ends game mixin now index bytes over spelled turns content other read mixed =
-    is_written game mixin now bytes (last_turn game mixin content other read mixed now index over (turns content other read mixed)) spelled
+    let last = last_turn game mixin content other read mixed now index over (turns content other read mixed) in
+    (is_written game mixin now bytes last spelled, none_missing game mixin now last)

@@ -143,11 +143,18 @@ read_is (reads.Class class) never = absurd (never (λ e. cc))
 read_is (reads.NoMagic at) never = absurd (never (λ e. cc))
 read_is reads.OutOfForm never = refl
 
-take_within : (n m : ℕ) (xs : List ℕ) → n ≤ m → take n (take m xs) ≡ take n xs
+pub take_within : (n m : ℕ) (xs : List ℕ) → n ≤ m → take n (take m xs) ≡ take n xs
 take_within zero m xs le = refl
 take_within (suc n) zero xs le = absurd (omega arith)
 take_within (suc n) (suc m) [] le = refl
 take_within (suc n) (suc m) (x ∷ xs) le = ap (λ ys. x ∷ ys) (take_within n m xs (omega arith))
+
+pub magic_fault_not : (content : List ℕ) (at : ℕ) → IsMagicFault content at → HasMagic content → ⊥
+magic_fault_not content at fault has =
+    fault.other (front content ∙ ap (take (at + 1)) has ∙ sym (front magic))
+  where
+    front : (xs : List ℕ) → take (at + 1) xs ≡ take (at + 1) (take 4 xs)
+    front xs = sym (take_within (at + 1) 4 xs (omega (arith, fault.within)))
 
 module _ (folder : List File) (game mixin : ClassRead) where
   abbrev Unfit : ℕ → Type 0
@@ -211,13 +218,6 @@ module _ (folder : List File) (game mixin : ClassRead) where
   module _ (game_read : IsReadOf folder (class_path Game) Game game) (mixin_read : IsReadOf folder (class_path Mixin) Mixin mixin) where
     one_content : (path a b : List ℕ) → content_of path folder ≡ Some a → content_of path folder ≡ Some b → a ≡ b
     one_content path a b e f = some_is a b (sym e ∙ f)
-
-    magic_fault_not : (content : List ℕ) (at : ℕ) → IsMagicFault content at → HasMagic content → ⊥
-    magic_fault_not content at fault has =
-        fault.other (front content ∙ ap (take (at + 1)) has ∙ sym (front magic))
-      where
-        front : (xs : List ℕ) → take (at + 1) xs ≡ take (at + 1) (take 4 xs)
-        front xs = sym (take_within (at + 1) 4 xs (omega (arith, fault.within)))
 
     -- a class file that is missing, or that has the magic number and isn't plain, is read as out of form
     unread : (role : Role) (read : ClassRead) → IsReadOf folder (class_path role) role read → ((content : List ℕ) → content_of (class_path role) folder ≡ Some content → HasMagic content × (IsPlainAs role content → ⊥)) → read ≡ reads.OutOfForm

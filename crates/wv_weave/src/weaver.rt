@@ -1,11 +1,11 @@
 //! The weaver: the first broken rule of a folder, or the files that it is woven to.
 ghost use Rattle.std.specs.Prelude.{◌≡◌, ◌++◌, ℕ, List, [], ◌∷◌, IfOk, IfErr};
-ghost use Rattle.wv_model.specs.MemberTable.{written_path};
+ghost use Rattle.wv_base.specs.declared.broken.Broken.{Broken as BrokenRule};
+ghost use Rattle.wv_model.specs.MemberTable.{written_path, IsWoven};
 ghost use Rattle.wv_model.specs.PlainCode.{Game, Mixin};
 ghost use Rattle.wv_model.specs.PlainClass.{IsPlainClass};
-ghost use Rattle.wv_model.specs.FirstForm.{out_of_form, shown_method, overwrite_missing};
-ghost use Rattle.wv_weave.specs.Merging.{Fits, HasPlainNames, Merges};
-ghost use Rattle.wv_weave.specs.Outside.{IsMisplaced, RefusesForm};
+ghost use Rattle.wv_model.specs.FirstForm.{out_of_form, class_bad, shown_method, overwrite_missing, Unlimited, FirstBroken, NoneBroken};
+ghost use Rattle.wv_weave.specs.Merging.{Fits, HasPlainNames, Merges, Applies};
 ghost use Rattle.wv_weave.specs.Woven.{IsOneEdit};
 ghost use Rattle.wv_weave.specs.Writing.{IsClassBytes};
 
@@ -72,7 +72,9 @@ fn refused_form(alloc: Global, path: &str) -> Result<WeaveFault, Memory>
 }
 
 /// The refusal of a file that doesn't begin as a class file.
-fn class_bad(alloc: Global, path: &str, at: usize) -> Result<WeaveFault, Memory> {
+fn class_bad(alloc: Global, path: &str, at: usize) -> Result<WeaveFault, Memory>
+    ensures { IfOk result (λ fault. fault ≡ WeaveFault.Broken (class_bad path.now at)) }
+{
     let wanted = text(alloc, "layout")?;
     let found = Text::from_string(format!(in alloc; "{at}")?);
     broken(alloc, Rule::ClassBad, path, None, wanted, found)
@@ -159,22 +161,20 @@ fn merge(alloc: Global, mut game: ClassFile, mixin: &ClassFile) -> Result<Woven,
     })
 }
 
-/// The class that was read at a path of the form.
-fn class_of(alloc: Global, path: &str, read: ClassRead) -> Result<ClassFile, WeaveFault> {
-    match read {
-        ClassRead::Class(class) => Ok(class),
-        ClassRead::NoMagic(at) => Err(class_bad(alloc, path, at)?),
-        ClassRead::OutOfForm => Err(refused_form(alloc, path)?),
-    }
-}
-
 /// Applies the mixin, where both class files are read as classes.
 fn apply(alloc: Global, game: ClassRead, mixin: ClassRead) -> Result<Woven, WeaveFault>
-    ensures { IfOk result IsOneEdit }
+    ensures one_edit { IfOk result IsOneEdit }
+    ensures applies { Applies game mixin result }
 {
-    let game = class_of(alloc, GAME_CLASS_PATH, game)?;
-    let mixin = class_of(alloc, MIXIN_CLASS_PATH, mixin)?;
-    merge(alloc, game, &mixin)
+    match (game, mixin) {
+        (ClassRead::Class(game), ClassRead::Class(mixin)) => merge(alloc, game, &mixin),
+        (ClassRead::NoMagic(at), _) => Err(class_bad(alloc, GAME_CLASS_PATH, at)?),
+        (ClassRead::Class(_), ClassRead::NoMagic(at)) => {
+            Err(class_bad(alloc, MIXIN_CLASS_PATH, at)?)
+        }
+        (ClassRead::OutOfForm, _) => Err(refused_form(alloc, GAME_CLASS_PATH)?),
+        (ClassRead::Class(_), ClassRead::OutOfForm) => Err(refused_form(alloc, MIXIN_CLASS_PATH)?),
+    }
 }
 
 /// Weaves a folder, or answers the first rule that it breaks.
@@ -183,8 +183,9 @@ fn apply(alloc: Global, game: ClassRead, mixin: ClassRead) -> Result<Woven, Weav
 /// method of it. The rules are OutOfForm, ClassBad for a file that doesn't begin with the magic
 /// number, and OverwriteMissing.
 pub fn weave(alloc: Global, folder: &Folder, _side: Side) -> Result<Woven, WeaveFault>
-    ensures form { (path : List ℕ) → IsMisplaced folder.now path → RefusesForm result path }
+    ensures woven { IfOk result (λ woven. NoneBroken Unlimited folder.now × IsWoven folder.now woven.files) }
     ensures one_edit { IfOk result IsOneEdit }
+    ensures broken { (broken : BrokenRule) → result ≡ Err (WeaveFault.Broken broken) → FirstBroken Unlimited folder.now broken }
 {
     let game = read_at(alloc, folder, GAME_CLASS_PATH, Role::Game)?;
     let mixin = read_at(alloc, folder, MIXIN_CLASS_PATH, Role::Mixin)?;
