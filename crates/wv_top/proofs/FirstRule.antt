@@ -12,7 +12,7 @@ use Rattle.std.proofs.lemmas.Slice.Eq.{bytes_eq-Decides}
 use Rattle.wv_base.specs.Folder.{File, IsPathBefore}
 use Rattle.wv_base.specs.declared.broken.Broken.{Broken}
 use Rattle.wv_base.specs.declared.rule.Rule.TheVariants.{OutOfForm, ClassBad, OverwriteMissing}
-use Rattle.wv_model.proofs.PlaceOrder.{path_of, Before, placed, insert_place, inserted_ordered, AreOne, inserted_has, inserted_is}
+use Rattle.wv_model.proofs.PlaceOrder.{path_of, Before, placed, contains_head, equal_paths, insert_place, inserted_ordered, AreOne, inserted_has, inserted_is}
 use Rattle.wv_model.specs.FirstForm.{ArePlaces, BreaksForm, BreaksLayout, BreaksOverwrite, FirstBroken, Holds, IsFirstPlace, IsOutside, NoneBroken, Unlimited, out_of_form, form_broken, layout_broken, overwrite_broken}
 
 -- ---- The limit's path among the paths where the form is broken

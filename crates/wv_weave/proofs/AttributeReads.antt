@@ -1,15 +1,13 @@
 -- The attributes that are read are those that the bytes spell.
-use Rattle.std.proofs.Common.{◌≡◌, ℕ, suc, ◌+◌, ◌^◌, ◌<◌, ◌≤◌, ◌==◌, Bool, true, false, cond, List, [], ◌∷◌, ◌++◌, length, codes, bytes_eq, Option, Some, None, refl, sym, ap, subst, ◌∙◌, arith, tests, rules, append_assoc, ◌⊎◌, inl, inr}
-use Rattle.std.proofs.lemmas.List.{append-nil, length-append}
+use Rattle.std.proofs.Common.{◌≡◌, ℕ, ◌+◌, ◌^◌, ◌<◌, true, cond, List, [], ◌∷◌, ◌++◌, length, codes, bytes_eq, Option, Some, None, refl, sym, ap, subst, ◌∙◌, arith}
 use Rattle.wv_base.specs.declared.class_file.PoolEntry.{PoolEntry}
-use Rattle.wv_base.specs.declared.class_file.PoolEntry.TheVariants as entries
 use Rattle.wv_insn.proofs.Readers.{IsBytes}
 use Rattle.wv_model.specs.PlainPool.{u2, u4, IsText, IsClass}
 use Rattle.wv_model.specs.PlainClass.{IsAttribute, SpellsOverwrite, SpellsMixin}
 use Rattle.wv_pool.specs.References.{text_of}
 use Rattle.wv_pool.specs.Constants.{class_name}
 use Rattle.wv_weave.specs.Reading.{◌>>=◌, split_at, short_at, length_at, expected, is_that, named_at, class_at, text_at, when, overwrite_in, one_class_at, mixin_at, mixin_in, attribute_at}
-use Rattle.wv_weave.proofs.NumberReads.{bind_some, some_is, tested_some, when_some, IsShort, IsLength, IsSplit, short_again, short_is, length_again, length_is, split_again, split_is, expected_again, expected_is}
+use Rattle.wv_weave.proofs.NumberReads.{bind_some, some_is, tested_some, when_some, short_again, short_is, length_again, length_is, split_again, split_is, expected_again, expected_is}
 use Rattle.wv_weave.proofs.PoolNames.{text_again, text_is, class_again, class_is, number_within}
 use Rattle.wv_weave.proofs.CodeReads.{text_same}
 use Rattle.wv_weave.proofs.CodeReads.{text_is as bytes_are}

@@ -1,8 +1,8 @@
 -- The plain class that is read is the one that the bytes spell.
-use Rattle.std.proofs.Common.{◌≡◌, ℕ, zero, suc, ◌+◌, ◌^◌, ◌<◌, ◌≤◌, ◌==◌, Bool, true, false, cond, List, [], ◌∷◌, ◌++◌, length, get_or, codes, bytes_eq, Option, Some, None, refl, sym, ap, subst, ◌∙◌, arith, tests, rules, append_assoc, ◌⊎◌, inl, inr}
+use Rattle.std.proofs.Common.{◌≡◌, ℕ, zero, suc, ◌^◌, ◌<◌, ◌≤◌, Bool, true, false, List, [], ◌∷◌, ◌++◌, length, get_or, codes, bytes_eq, Option, Some, None, refl, sym, ap, subst, ◌∙◌, arith, inl, inr}
 use Rattle.std.specs.Prelude.{not, ◌||◌, slice_get, AllPairs}
 use Rattle.std.specs.List.{list_any, AllByRecursion, AllZip, concat}
-use Rattle.std.proofs.lemmas.List.{append-nil, length-append}
+use Rattle.std.proofs.lemmas.List.{append-nil}
 use Rattle.wv_base.specs.declared.class_file.ClassFile.{ClassFile}
 use Rattle.wv_base.specs.declared.class_file.Member.{Member}
 use Rattle.wv_base.specs.declared.class_file.PoolEntry.{PoolEntry}
@@ -11,17 +11,17 @@ use Rattle.wv_base.specs.declared.note.Annotation.{out-roll-Annotation}
 use Rattle.wv_base.specs.declared.note.Element.TheVariants as elements
 use Rattle.wv_base.specs.declared.note.NamedElement.{NamedElement, roll-NamedElement, out-roll-NamedElement}
 use Rattle.wv_insn.proofs.Readers.{IsBytes}
-use Rattle.wv_model.specs.PlainPool.{u2, u4, pool_bytes, entry_at, IsText, IsClass, IsPlainPool, NamesClass}
+use Rattle.wv_model.specs.PlainPool.{u2, u4, pool_bytes, IsClass, IsPlainPool, NamesClass}
 use Rattle.wv_model.specs.PlainCode.{Role, Game, Mixin, class_name}
-use Rattle.wv_model.specs.PlainClass.{IsAttribute, SpellsMixin, AreClassNotes, SpellsMethod, IsPlainMethod, AreSame, SpellsClassAttributes, Spells, magic, head_bytes, most_bytes, MeetsRole, IsPlainForm, IsPlainClass}
+use Rattle.wv_model.specs.PlainClass.{SpellsMixin, AreClassNotes, SpellsMethod, IsPlainMethod, AreSame, SpellsClassAttributes, magic, head_bytes, most_bytes, MeetsRole, IsPlainClass}
 use Rattle.wv_pool.specs.References.{text_of}
 use Rattle.wv_weave.specs.Reading.{◌>>=◌, short_at, expected, class_at, is_that, when, table_name, attribute_at, mixin_in, note, class_notes, names_class, is_count, end_of, supers_at, count_at, methods_at, methods_of, class_with, fits_role}
-use Rattle.wv_weave.proofs.NumberReads.{bind_some, some_is, when_some, IsShort, short_again, short_is, expected_again, expected_is}
-use Rattle.wv_weave.proofs.PoolNames.{text_again, text_is, number_within}
+use Rattle.wv_weave.proofs.NumberReads.{bind_some, some_is, when_some, short_again, short_is, expected_again, expected_is}
+use Rattle.wv_weave.proofs.PoolNames.{text_again, text_is}
 use Rattle.wv_weave.proofs.CodeReads.{text_same, nat_is, either}
 use Rattle.wv_weave.proofs.CodeReads.{text_is as bytes_are}
-use Rattle.wv_weave.proofs.AttributeReads.{IsSmall, IsNumbered, class_at_again, class_at_is, attribute_again, IsContent, attribute_is, attribute_of, mixin_again, mixin_is}
-use Rattle.wv_weave.proofs.MethodReads.{one_note, AreMethodsOf, methods_again, AreMethodsRead, methods_are}
+use Rattle.wv_weave.proofs.AttributeReads.{IsSmall, class_at_again, class_at_is, attribute_again, attribute_is, attribute_of, mixin_again, mixin_is}
+use Rattle.wv_weave.proofs.MethodReads.{one_note, methods_again, methods_are}
 
 -- ---- The front
 
@@ -198,15 +198,17 @@ role_test Mixin class meets = (refl, rw meets refl)
 notes_are : (role : Role) → AreClassNotes role (class_notes role)
 notes_are Game = refl
 notes_are Mixin =
-    let element : NamedElement = roll-NamedElement (record { name = codes "value"; value = elements.Array (elements.Class (codes "Lapp/Main;") ∷ []) }) in
-    (note (codes "org/spongepowered/asm/mixin/Mixin") (element ∷ []), refl,
+    let element : NamedElement = roll-NamedElement (record { name = codes "value"; value = elements.Array (elements.Class (codes "Lapp/Main;") ∷ []) }) in (
+      note (codes "org/spongepowered/asm/mixin/Mixin") (element ∷ []),
+      refl,
       record {
         invisible = one_note (codes "org/spongepowered/asm/mixin/Mixin") (element ∷ []);
         element = element;
         one_element = ap (λ a. a.elements) (out-roll-Annotation (record { class = codes "org/spongepowered/asm/mixin/Mixin"; elements = element ∷ [] }));
         is_value = ap (λ a. a.name) (out-roll-NamedElement (record { name = codes "value"; value = elements.Array (elements.Class (codes "Lapp/Main;") ∷ []) }));
         is_target = ap (λ a. a.value) (out-roll-NamedElement (record { name = codes "value"; value = elements.Array (elements.Class (codes "Lapp/Main;") ∷ []) }));
-      })
+      },
+    )
 
 -- ---- Distinct methods
 
@@ -344,8 +346,8 @@ class_readable role bytes class is =
     let this : IsClass pool s.this_number (class_name role) = subst (IsClass pool s.this_number) p.name s.this in
     let super : IsClass pool s.super_number (codes "java/lang/Object") = subst (IsClass pool s.super_number) p.super_class s.super_class in
     let tail : List ℕ = u2 s.this_number ++ (u2 s.super_number ++ (u2 0 ++ (u2 0 ++ (u2 (length class.methods) ++ (concat s.parts ++ s.attributes))))) in
-    let front : head_bytes class ≡ head = ap (λ n. magic ++ (u2 n ++ u2 class.version.major)) p.minor ∙ ap (λ n. magic ++ (u2 0 ++ u2 n)) p.major in
-    (u2 0x0021 ++ tail,
+    let front : head_bytes class ≡ head = ap (λ n. magic ++ (u2 n ++ u2 class.version.major)) p.minor ∙ ap (λ n. magic ++ (u2 0 ++ u2 n)) p.major in (
+      u2 0x0021 ++ tail,
       record {
         small = is.small;
         parts = s.spelled ∙ ap (λ h. h ++ (pool_bytes pool ++ (u2 class.flags.0 ++ tail))) front ∙ ap (λ f. head ++ (pool_bytes pool ++ (u2 f ++ tail))) p.flags;
@@ -354,4 +356,5 @@ class_readable role bytes class is =
         members = m.members;
         read = read_again role pool s.this_number s.super_number class.methods m.members s.parts s.attributes s.pool.0 this super s.methods_fit tests.1 m.read s.attributes_spelled;
         distinct = distinct_same m.members class.methods m.same p.distinct;
-      })
+      },
+    )

@@ -1,7 +1,7 @@
 -- The list of instructions that is read is the one that the bytes of the code spell.
-use Rattle.std.proofs.Common.{◌≡◌, ℕ, zero, suc, ◌+◌, ◌^◌, ◌<◌, ◌≤◌, ◌==◌, Bool, true, false, cond, List, [], ◌∷◌, ◌++◌, length, Option, Some, None, refl, sym, ap, subst, ◌∙◌, arith, tests, rules, append_assoc, ◌⊎◌, inl, inr}
+use Rattle.std.proofs.Common.{◌≡◌, ℕ, zero, suc, ◌+◌, ◌^◌, ◌<◌, ◌≤◌, Bool, true, false, cond, List, [], ◌∷◌, ◌++◌, length, Some, refl, sym, ap, subst, ◌∙◌, arith, inl, inr}
 use Rattle.std.specs.List.{AllByRecursion, AllZip, concat}
-use Rattle.std.proofs.lemmas.List.{append-nil, length-append}
+use Rattle.std.proofs.lemmas.List.{length-append}
 use Rattle.wv_base.specs.declared.class_file.PoolEntry.{PoolEntry}
 use Rattle.wv_base.specs.declared.insn.Insn.{Insn}
 use Rattle.wv_base.specs.declared.insn.Insn.TheVariants as insns
@@ -10,7 +10,7 @@ use Rattle.wv_insn.proofs.Readers.{IsBytes}
 use Rattle.wv_model.specs.PlainCode.{Role, IsPlainInsn, EndsWithReturn, SpellsInsn}
 use Rattle.wv_weave.specs.Reading.{◌>>=◌, insn_at, insns_at, is_return, alone}
 use Rattle.wv_weave.proofs.NumberReads.{bind_some, some_is}
-use Rattle.wv_weave.proofs.InsnReads.{IsInsn, insn_is}
+use Rattle.wv_weave.proofs.InsnReads.{insn_is}
 use Rattle.wv_weave.proofs.CodeReads.{insn_spelled, plain_again, branch, nat_is}
 
 -- ---- The end

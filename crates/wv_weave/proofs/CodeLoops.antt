@@ -1,5 +1,5 @@
 -- Reading instructions one after the other, as the loop does.
-use Rattle.std.proofs.Common.{◌≡◌, ℕ, zero, suc, ◌-◌, ◌+◌, ◌≤◌, ◌<◌, Bool, true, false, cond, List, [], ◌∷◌, ◌++◌, length, drop, Option, Some, None, refl, sym, ap, ◌∙◌, append_assoc, arith}
+use Rattle.std.proofs.Common.{◌≡◌, ℕ, suc, ◌-◌, ◌+◌, ◌≤◌, ◌<◌, true, false, List, [], ◌∷◌, ◌++◌, length, drop, Option, Some, None, refl, ap, ◌∙◌, append_assoc, arith}
 use Rattle.std.proofs.lemmas.List.{length-drop}
 use Rattle.wv_base.specs.declared.class_file.PoolEntry.{PoolEntry}
 use Rattle.wv_base.specs.declared.insn.Insn.{Insn}
@@ -27,7 +27,7 @@ unfolding insns_at
 goes_on role pool code front at behind i insn lt read other still =
     let k : length code - i ≡ suc (length code - (i + 1)) = omega arith in
     let one : with_front front (insns_at role pool (length code - i) (drop at code)) ≡ with_front (front ++ insn ∷ []) (insns_at role pool (length code - (i + 1)) (drop behind code)) =
-      rw (k, read, other) (regroup front insn (insns_at role pool (length code - (i + 1)) (drop behind code))) in
+    rw (k, read, other) (regroup front insn (insns_at role pool (length code - (i + 1)) (drop behind code))) in
     still ∙ one
 
 pub returns_at : (role : Role) (pool : List PoolEntry) (code : List ℕ) (front : List Insn) (at behind i : ℕ) (insn : Insn) → i < length code → insn_at role pool (drop at code) ≡ Some (insn, drop behind code)

@@ -1,10 +1,9 @@
 -- The plain code that is read is the one that the bytes spell.
-use Rattle.std.proofs.Common.{◌≡◌, ℕ, zero, suc, ◌+◌, ◌^◌, ◌<◌, ◌≤◌, ◌==◌, nat_le, Bool, true, false, ◌&&◌, ◌||◌, cond, List, [], ◌∷◌, ◌++◌, length, ℤ, codes, bytes_eq, Option, Some, None, refl, sym, ap, subst, ◌∙◌, arith, tests, rules, append_assoc, ◌⊎◌, inl, inr}
+use Rattle.std.proofs.Common.{◌≡◌, ℕ, ◌+◌, ◌^◌, ◌<◌, ◌==◌, Bool, true, false, ◌&&◌, ◌||◌, cond, List, ◌∷◌, ◌++◌, length, ℤ, codes, bytes_eq, Option, Some, None, refl, sym, ap, subst, ◌∙◌, arith, tests, rules, ◌⊎◌, inl, inr}
 use Rattle.std.specs.Prelude.{FitsSigned, MatchBool, replicate}
 use Rattle.std.specs.List.{AllByRecursion, AllZip, concat}
 use Rattle.std.specs.Int.{w8, w16, to_be_bytes, cast_unsigned}
 use Rattle.std.proofs.lemmas.Bool.Decides.{nat_tests}
-use Rattle.std.proofs.lemmas.List.{length-append}
 use Rattle.wv_base.specs.declared.class_file.PoolEntry.{PoolEntry}
 use Rattle.wv_base.specs.declared.constant.MemberReference.{MemberReference}
 use Rattle.wv_base.specs.declared.insn.Insn.{Insn}
@@ -12,18 +11,17 @@ use Rattle.wv_base.specs.declared.insn.Insn.TheVariants as insns
 use Rattle.wv_base.specs.declared.form.Form.{Form}
 use Rattle.wv_base.specs.declared.form.Form.TheVariants as form
 use Rattle.wv_base.specs.Instructions.{form_of}
-use Rattle.wv_base.specs.Opcodes.{bipush, return, getstatic, invokevirtual, invokestatic}
+use Rattle.wv_base.specs.Opcodes.{bipush, getstatic, invokevirtual, invokestatic}
 use Rattle.wv_insn.specs.declared.raw.Raw.{Raw}
 use Rattle.wv_insn.specs.declared.raw.Raw.TheVariants as raws
 use Rattle.wv_insn.specs.Spelling.{Spells, IsInstruction, width_of, signed}
-use Rattle.wv_insn.proofs.Readers.{IsBytes}
 use Rattle.wv_model.specs.PlainPool.{u2, IsField, IsMethod}
 use Rattle.wv_model.specs.PlainCode as model
 use Rattle.wv_model.specs.PlainCode.{Role, Game, Mixin, IsOwner, IsOrdinary, IsOwnMethod, IsPlainReference, IsPlainInsn, EndsWithReturn, IsOperand, SpellsInsn, SpellsCode}
 use Rattle.wv_pool.specs.References.{entry_of}
-use Rattle.wv_weave.specs.Reading.{◌>>=◌, is_plain_opcode, is_system_out, is_println, is_owner, is_ordinary, is_own_method, refer, referring, field_in, method_in, reference_of, insn_of, insn_at, insns_at, is_return, alone}
-use Rattle.wv_weave.proofs.NumberReads.{bind_some, some_is, tested_some}
-use Rattle.wv_weave.proofs.InsnReads.{push_form, IsReferring, referring_opcode, referring_small, referring_form, insn_again, IsInsn, insn_is}
+use Rattle.wv_weave.specs.Reading.{is_plain_opcode, is_system_out, is_println, is_owner, is_ordinary, is_own_method, refer, referring, field_in, method_in, reference_of, insn_of, insn_at}
+use Rattle.wv_weave.proofs.NumberReads.{tested_some}
+use Rattle.wv_weave.proofs.InsnReads.{push_form, IsReferring, referring_opcode, referring_small, referring_form, insn_again}
 use Rattle.wv_weave.proofs.PoolNames.{field_again, field_is, method_again, method_is, number_within}
 
 -- ---- Tests of references

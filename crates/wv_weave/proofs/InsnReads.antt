@@ -1,5 +1,5 @@
 -- The plain instruction that is read is the one that stands in the code.
-use Rattle.std.proofs.Common.{◌≡◌, ℕ, suc, ◌+◌, ◌-◌, ◌%◌, ◌^◌, ◌<◌, ◌≤◌, ◌==◌, nat_le, Bool, true, false, ◌&&◌, ◌||◌, cond, List, [], ◌∷◌, ◌++◌, length, take, drop, ℤ, Option, Some, None, refl, sym, ap, subst, ◌∙◌, arith, tests, rules, ◌⊎◌, inl, inr}
+use Rattle.std.proofs.Common.{◌≡◌, ℕ, ◌+◌, ◌%◌, ◌^◌, ◌<◌, ◌==◌, Bool, true, false, cond, List, [], ◌∷◌, ◌++◌, length, take, drop, ℤ, Option, Some, None, refl, sym, ap, subst, ◌∙◌, arith, tests, rules, ◌⊎◌, inl, inr}
 use Rattle.std.specs.Prelude.{FitsSigned}
 use Rattle.std.specs.Int.{w8, w16, to_be_bytes, cast_signed, cast_unsigned}
 use Rattle.std.proofs.lemmas.Bool.Decides.{nat_tests}
@@ -9,7 +9,7 @@ use Rattle.std.proofs.Math.Facts.{Fits-of_z, sfits_to_z}
 use Rattle.wv_base.specs.declared.form.Form.{Form}
 use Rattle.wv_base.specs.declared.form.Form.TheVariants as form
 use Rattle.wv_base.specs.Instructions.{form_of}
-use Rattle.wv_base.specs.Opcodes.{bipush, getstatic, invokevirtual, invokestatic, return}
+use Rattle.wv_base.specs.Opcodes.{bipush, getstatic, invokevirtual, invokestatic}
 use Rattle.wv_base.specs.declared.class_file.PoolEntry.{PoolEntry}
 use Rattle.wv_base.specs.declared.insn.Insn.{Insn}
 use Rattle.wv_base.specs.declared.insn.Insn.TheVariants as insns
@@ -21,7 +21,7 @@ use Rattle.wv_insn.proofs.Readers.{IsBytes, IsBytes-rest}
 use Rattle.wv_insn.proofs.Directions.{one_spelling}
 use Rattle.wv_insn.proofs.Padding.{is_plain}
 use Rattle.wv_model.specs.PlainCode.{Role}
-use Rattle.wv_weave.specs.Reading.{◌>>=◌, is_plain_opcode, reference_of, insn_of, short_at, push_at, byte_at, reference_at, insn_at}
+use Rattle.wv_weave.specs.Reading.{◌>>=◌, is_plain_opcode, reference_of, insn_of, short_at, push_at, reference_at, insn_at}
 use Rattle.wv_weave.proofs.NumberReads.{bind_some, some_is, tested_some, short_again, short_is}
 
 -- ---- Opcodes

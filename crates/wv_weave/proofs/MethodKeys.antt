@@ -1,6 +1,6 @@
 -- The keys of the methods that were seen, and that no two of them are the same.
 use Rattle.std.proofs.Common.{◌≡◌, ℕ, zero, suc, ◌+◌, ◌<◌, Bool, true, false, cond, ◌&&◌, ◌||◌, List, [], ◌∷◌, ◌++◌, length, take, get_or, bytes_eq, MatchBool, Result, Ok, Err, refl, sym, ap, subst, ◌∙◌, arith}
-use Rattle.std.specs.Prelude.{AllPairs, not}
+use Rattle.std.specs.Prelude.{not}
 use Rattle.std.specs.List.{list_any}
 use Rattle.std.specs.Ordering.{is_eq, nat_cmp, ordering_then}
 use Rattle.std.specs.declared.cmp.Ordering.{Ordering}
@@ -21,7 +21,7 @@ use Rattle.wv_weave.specs.declared.fault.PlainFault.{PlainFault}
 use Rattle.wv_weave.specs.declared.fault.PlainFault.TheVariants as faults
 use Rattle.wv_weave.proofs.CodeReads.{text_same, both}
 use Rattle.wv_weave.proofs.CodeReads.{text_is as bytes_are}
-use Rattle.wv_weave.proofs.ClassReads.{AreDistinct, Found, found}
+use Rattle.wv_weave.proofs.ClassReads.{AreDistinct, found}
 
 abbrev pub Key : Type 0
 Key = List ℕ × List ℕ
@@ -80,7 +80,7 @@ pub one_more : (old new : BTreeSet Key) (methods : List Member) (method : Member
 one_more old new methods method has none updates =
     record {
       distinct = all_pairs_push (λ first later. AreSame first later → ⊥) methods method has.distinct
-        (λ k d lt same. let never : true ≡ false = sym (same_test (get_or methods k d) method same) ∙ none_at (is_key (key_of method)) methods k d (sym (has.exact (key_of method)) ∙ none) lt in cc);
+          (λ k d lt same. let never : true ≡ false = sym (same_test (get_or methods k d) method same) ∙ none_at (is_key (key_of method)) methods k d (sym (has.exact (key_of method)) ∙ none) lt in cc);
       exact = λ key. updates.0 key ∙ ap (cond (is_key key method) true) (has.exact key) ∙ or_last (list_any (is_key key) methods) (is_key key method) ∙ sym (list_any-append (is_key key) methods (method ∷ []));
     }
 

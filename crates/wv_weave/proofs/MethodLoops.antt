@@ -1,5 +1,5 @@
 -- Reading methods one after the other, as the loop does.
-use Rattle.std.proofs.Common.{◌≡◌, ℕ, zero, suc, ◌-◌, ◌+◌, ◌≤◌, ◌<◌, List, [], ◌∷◌, ◌++◌, Option, Some, None, refl, sym, ap, ◌∙◌, append_assoc, arith}
+use Rattle.std.proofs.Common.{◌≡◌, ℕ, suc, ◌-◌, ◌+◌, ◌≤◌, ◌<◌, List, [], ◌∷◌, ◌++◌, Option, Some, None, refl, ap, ◌∙◌, append_assoc, arith}
 use Rattle.std.proofs.lemmas.List.{append-nil}
 use Rattle.wv_base.specs.declared.class_file.Member.{Member}
 use Rattle.wv_base.specs.declared.class_file.PoolEntry.{PoolEntry}
@@ -29,7 +29,7 @@ unfolding methods_at
 goes_on role pool count i bytes rest after front item lt read still =
     let k : count - i ≡ suc (count - (i + 1)) = omega arith in
     let one : with_front front (methods_at role pool (count - i) rest) ≡ with_front (front ++ item ∷ []) (methods_at role pool (count - (i + 1)) after) =
-      rw (k, read) (regroup front item (methods_at role pool (count - (i + 1)) after)) in
+    rw (k, read) (regroup front item (methods_at role pool (count - (i + 1)) after)) in
     still ∙ one
 
 pub fails_at : (role : Role) (pool : List PoolEntry) (count i : ℕ) (bytes rest : List ℕ) (front : List Member) (fault : PlainFault) → i < count → Fails fault (method_at role pool rest)

@@ -1,13 +1,12 @@
 -- The methods that are read are those that the bytes spell.
-use Rattle.std.proofs.Common.{◌≡◌, ℕ, zero, suc, ◌+◌, ◌^◌, ◌<◌, ◌≤◌, ◌==◌, nat_le, Bool, true, false, ◌&&◌, ◌||◌, cond, List, [], ◌∷◌, ◌++◌, length, codes, bytes_eq, Option, Some, None, refl, sym, ap, subst, ◌∙◌, arith, tests, rules, append_assoc, ◌⊎◌, inl, inr}
-use Rattle.std.specs.Prelude.{IsTrue, IsSomeAnd}
+use Rattle.std.proofs.Common.{◌≡◌, ℕ, zero, suc, ◌+◌, ◌^◌, ◌<◌, ◌≤◌, nat_le, true, ◌&&◌, List, [], ◌∷◌, ◌++◌, length, codes, bytes_eq, Option, Some, None, refl, sym, ap, subst, ◌∙◌, arith, append_assoc, ◌⊎◌, inl, inr}
+use Rattle.std.specs.Prelude.{IsSomeAnd}
 use Rattle.std.specs.List.{AllByRecursion, AllZip, concat}
 use Rattle.std.proofs.lemmas.Bool.{leb-true, le-leb}
-use Rattle.std.proofs.lemmas.List.{append-nil, length-append}
+use Rattle.std.proofs.lemmas.List.{length-append}
 use Rattle.wv_base.specs.declared.class_file.Body.{Body}
 use Rattle.wv_base.specs.declared.class_file.Member.{Member}
 use Rattle.wv_base.specs.declared.class_file.PoolEntry.{PoolEntry}
-use Rattle.wv_base.specs.declared.descriptor.FieldType.{FieldType}
 use Rattle.wv_base.specs.declared.descriptor.ElementType.TheVariants as elements
 use Rattle.wv_base.specs.declared.descriptor.MethodType.{MethodType}
 use Rattle.wv_base.specs.declared.insn.Insn.{Insn}
@@ -22,13 +21,13 @@ use Rattle.wv_base.proofs.MethodTypes.{method_cancel}
 use Rattle.wv_insn.proofs.Readers.{IsBytes}
 use Rattle.wv_model.specs.PlainPool.{u2, u4, IsText}
 use Rattle.wv_model.specs.PlainCode.{Role, Game, Mixin, IsPlainInsn, EndsWithReturn, SpellsInsn, SpellsBody}
-use Rattle.wv_model.specs.PlainTyping.{HasTyping, Verifies}
+use Rattle.wv_model.specs.PlainTyping.{HasTyping}
 use Rattle.wv_model.specs.PlainClass.{IsAttribute, SpellsOverwrite, SpellsMethodAttributes, SpellsMethod, IsPlainDescriptor, IsPlainBody, IsPlainMethod, AreSame, IsInvisible, AreMethodNotes}
 use Rattle.wv_weave.specs.Checking.{checks}
 use Rattle.wv_weave.specs.Reading.{◌>>=◌, short_at, length_at, split_at, expected, named_at, text_at, when, attribute_at, two_at, code_name, table_name, swapped, or_else, both_at, code_at, overwrite_in, parts_in, is_closed, body_in, body_with, insns_at, is_ordinary, is_descriptor, parameter_words, method_with, note, method_notes, method_at, methods_at}
 use Rattle.wv_weave.proofs.PoolNames.{text_again, number_within}
 use Rattle.wv_weave.proofs.TypingChecks.{typing_of_checks, checks_of_typing}
-use Rattle.wv_weave.proofs.NumberReads.{bind_some, some_is, when_some, IsShort, IsLength, IsSplit, short_again, short_is, length_again, length_is, split_again, split_is, expected_again, expected_is}
+use Rattle.wv_weave.proofs.NumberReads.{bind_some, some_is, when_some, IsShort, short_again, short_is, length_again, length_is, split_again, split_is, expected_again, expected_is}
 use Rattle.wv_weave.proofs.CodeReads.{text_same, both, either, ordinary_is, ordinary_test}
 use Rattle.wv_weave.proofs.CodeReads.{text_is as bytes_are}
 use Rattle.wv_weave.proofs.CodeLists.{count_within, code_again, code_is}
@@ -117,7 +116,7 @@ body_again role pool descriptor body content small plain s p =
     let count = count_within role pool body.insns s.insns.parts s.insns.each p.plain in
     let many : length p.ends.front < length s.code = omega (arith, count, ap length p.ends.last ∙ length-append p.ends.front (insns.Plain return ∷ []), ap length s.insns.joined) in
     let code : insns_at role pool (length s.code) s.code ≡ Some body.insns =
-      ap (insns_at role pool (length s.code)) s.insns.joined ∙ code_again role pool p.ends.front s.insns.parts (length s.code) small each plains p.ends.only many ∙ ap Some (sym p.ends.last) in
+    ap (insns_at role pool (length s.code)) s.insns.joined ∙ code_again role pool p.ends.front s.insns.parts (length s.code) small each plains p.ends.only many ∙ ap Some (sym p.ends.last) in
     rw (s.spelled, split, closed, code, checks_of_typing body.max_stack body.insns p.verifies.typing) refl
 
 pub record IsBody (role : Role) (pool : List PoolEntry) (words : ℕ) (content : List ℕ) (body : Body) : Type 0 where
@@ -208,7 +207,7 @@ both_swapped : (pool : List PoolEntry) (A B : List ℕ → Type 0) (a b rest : L
 unfolding both_at
 both_swapped pool A B a b rest small x y =
     let none : two_at pool code_name table_name ((b ++ a) ++ rest) ≡ None =
-      ap (λ z. two_at pool code_name table_name ((z ++ a) ++ rest)) y.spelled ∙ two_other pool y.number (((u4 (length y.content) ++ y.content) ++ a) ++ rest) small y.named in
+    ap (λ z. two_at pool code_name table_name ((z ++ a) ++ rest)) y.spelled ∙ two_other pool y.number (((u4 (length y.content) ++ y.content) ++ a) ++ rest) small y.named in
     rw (none, two_again pool table_name code_name B A b a rest small y x) refl
 
 record HasBoth (pool : List PoolEntry) (bytes code table rest : List ℕ) : Type 1 where
@@ -386,13 +385,17 @@ method_again role pool method bytes rest small s p =
     let front : bytes ≡ u2 9 ++ (u2 s.name_number ++ (u2 s.descriptor_number ++ s.attributes)) = s.spelled ∙ ap (λ n. u2 n ++ (u2 s.name_number ++ (u2 s.descriptor_number ++ s.attributes))) p.flags in
     record {
       member = method_with role method.name method.descriptor (body_with s.body.max_stack s.body.max_locals s.body.insns);
-      read = rw (front,
+      read = rw (
+        front,
         expected_again 9 (u2 s.name_number ++ (u2 s.descriptor_number ++ (s.attributes ++ rest))) (omega arith),
         text_at_again pool s.name_number method.name (u2 s.descriptor_number ++ (s.attributes ++ rest)) small s.name,
         text_at_again pool s.descriptor_number method.descriptor (s.attributes ++ rest) small s.descriptor,
-        p.name, ordinary_test method.name p.ordinary, descriptor_test role method.descriptor p.descriptor,
+        p.name,
+        ordinary_test method.name p.ordinary,
+        descriptor_test role method.descriptor p.descriptor,
         code.read,
-        body_again role pool method.descriptor s.body code.content small p.descriptor code.spelled plain) refl;
+        body_again role pool method.descriptor s.body code.content small p.descriptor code.spelled plain,
+      ) refl;
       same = (refl, refl);
     }
 
@@ -409,12 +412,14 @@ one_note class elements =
 
 notes_are : (role : Role) → AreMethodNotes role (method_notes role)
 notes_are Game = refl
-notes_are Mixin =
-    (note (codes "org/spongepowered/asm/mixin/Overwrite") [], refl,
-      record {
-        invisible = one_note (codes "org/spongepowered/asm/mixin/Overwrite") [];
-        no_elements = ap (λ a. a.elements) (out-roll-Annotation (record { class = codes "org/spongepowered/asm/mixin/Overwrite"; elements = [] }));
-      })
+notes_are Mixin = (
+  note (codes "org/spongepowered/asm/mixin/Overwrite") [],
+  refl,
+  record {
+    invisible = one_note (codes "org/spongepowered/asm/mixin/Overwrite") [];
+    no_elements = ap (λ a. a.elements) (out-roll-Annotation (record { class = codes "org/spongepowered/asm/mixin/Overwrite"; elements = [] }));
+  },
+)
 
 method_of_parts : (role : Role) (pool : List PoolEntry) (bytes one two three content rest : List ℕ) (name descriptor : List ℕ) (body : Body) → IsShort bytes 9 one → IsNumbered (λ n. IsText pool n name) one two
     → IsNumbered (λ n. IsText pool n descriptor) two three → (is_method_name name && is_ordinary name && is_descriptor role descriptor) ≡ true → HasCode role pool three content rest
@@ -507,11 +512,13 @@ methods_are role pool (suc count) bytes x short fits e =
     let m = method_is role pool bytes a.0 short fits a.1 in
     let b = bind_some (methods_at role pool count a.0.1) (λ others. Some (a.0.0 ∷ others.0, others.1)) x a.2 in
     let others = methods_are role pool count a.0.1 b.0 (omega (arith, short, ap length m.parts, length-append m.text a.0.1)) m.fits b.1 in
-    subst (λ (y : List Member × List ℕ). AreMethodsRead role pool bytes y.0 y.1 × (length y.0 ≡ suc count)) (some_is (a.0.0 ∷ b.0.0, b.0.1) x b.2)
-    (record {
-      texts = m.text ∷ others.0.texts;
-      parts = m.parts ∙ ap (λ z. m.text ++ z) others.0.parts ∙ sym (append_assoc m.text (concat others.0.texts) b.0.1);
-      spelled = (m.spelled, others.0.spelled);
-      plain = (m.plain, others.0.plain);
-      fits = others.0.fits;
-    }, ap suc others.1)
+    subst (λ (y : List Member × List ℕ). AreMethodsRead role pool bytes y.0 y.1 × (length y.0 ≡ suc count)) (some_is (a.0.0 ∷ b.0.0, b.0.1) x b.2) (
+      record {
+        texts = m.text ∷ others.0.texts;
+        parts = m.parts ∙ ap (λ z. m.text ++ z) others.0.parts ∙ sym (append_assoc m.text (concat others.0.texts) b.0.1);
+        spelled = (m.spelled, others.0.spelled);
+        plain = (m.plain, others.0.plain);
+        fits = others.0.fits;
+      },
+      ap suc others.1,
+    )

@@ -1,17 +1,17 @@
 -- The places at which the form is broken, as a list, from what is read of the two class files.
-use Rattle.std.proofs.Common.{◌≡◌, ◌↔◌, ℕ, zero, suc, ◌+◌, ◌<◌, ◌≤◌, Bool, true, false, ◌⊎◌, inl, inr, List, [], ◌∷◌, length, get_or, take, bytes_eq, Option, Some, None, Contains, AllPairs, refl, sym, ap, subst, ◌∙◌, arith, lit<, lit≤}
+use Rattle.std.proofs.Common.{◌≡◌, ◌↔◌, ℕ, zero, suc, ◌+◌, ◌<◌, ◌≤◌, Bool, true, false, ◌⊎◌, inl, inr, List, [], ◌∷◌, length, get_or, take, bytes_eq, Option, Some, None, Contains, refl, sym, ap, subst, ◌∙◌, arith, lit<, lit≤}
 use Rattle.std.specs.List.{IsAmong}
 use Rattle.std.proofs.lemmas.Slice.Eq.{bytes_eq-Decides}
 use Rattle.wv_base.specs.Folder.{File, IsPathBefore, content_of}
 use Rattle.wv_base.specs.declared.broken.Broken.{Broken}
-use Rattle.wv_model.specs.FirstForm.{class_path, json_files, form_paths, counts, IsOther, IsOutside, out_of_form, BreaksForm, ArePlaces, Holds, IsFirstPlace, Unlimited}
-use Rattle.wv_model.specs.PlainClass.{magic, HasMagic, IsMagicFault, IsPlainClass, IsPlainAs}
+use Rattle.wv_model.specs.FirstForm.{class_path, json_files, form_paths, IsOutside, out_of_form, BreaksForm, ArePlaces, Holds, IsFirstPlace, Unlimited}
+use Rattle.wv_model.specs.PlainClass.{magic, HasMagic, IsMagicFault, IsPlainAs}
 use Rattle.wv_model.specs.PlainCode.{Role, Game, Mixin}
-use Rattle.wv_model.proofs.PlaceOrder.{path_of, Before, insert_place, inserted_ordered, AreOne, inserted_has, inserted_is, contains_head, contains_parts}
+use Rattle.wv_model.proofs.PlaceOrder.{path_of, insert_place, inserted_ordered, AreOne, inserted_has, inserted_is, contains_head, contains_parts}
 use Rattle.wv_weave.specs.ClassRead.{IsReadOf}
 use Rattle.wv_weave.specs.declared.class_read.ClassRead.{ClassRead}
 use Rattle.wv_weave.specs.declared.class_read.ClassRead.TheVariants as reads
-use Rattle.wv_weave.specs.Outside.{is_form_path, IsExtra, IsUnfitJson, IsUnfit, IsOut, IsFirstPath}
+use Rattle.wv_weave.specs.Outside.{IsExtra, IsUnfit, IsOut, IsFirstPath}
 use Rattle.wv_weave.proofs.ExtraPaths.{is_extra, is_extra-from, extra-from}
 use Rattle.wv_weave.proofs.ExtraPaths as extra_paths
 use Rattle.wv_weave.proofs.UnfitPaths.{json, nth, Fits}

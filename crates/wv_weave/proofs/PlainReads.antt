@@ -1,15 +1,13 @@
 -- A plain class is found exactly where the bytes spell one.
-use Rattle.std.proofs.Common.{◌≡◌, ℕ, ◌+◌, ◌^◌, ◌<◌, ◌≤◌, nat_le, Bool, true, false, ◌&&◌, List, [], ◌∷◌, ◌++◌, length, take, drop, get_or, bytes_eq, Option, Some, None, Result, Ok, Err, MatchBool, refl, sym, ap, subst, ◌∙◌, arith, rules, tests}
+use Rattle.std.proofs.Common.{◌≡◌, ℕ, ◌+◌, ◌^◌, ◌<◌, ◌≤◌, nat_le, Bool, true, false, List, ◌++◌, length, take, drop, bytes_eq, Option, Some, None, Result, Ok, Err, MatchBool, refl, sym, ap, subst, ◌∙◌, arith}
 use Rattle.std.proofs.lemmas.Bool.{leb-true, le-leb}
 use Rattle.std.proofs.lemmas.List.{take-append-drop, take_at, drop_at, get_or-drop, length-append}
-use Rattle.wv_base.specs.declared.class_file.ClassFile.{ClassFile}
 use Rattle.wv_base.specs.declared.class_file.Member.{Member}
 use Rattle.wv_base.specs.declared.class_file.PoolEntry.{PoolEntry}
 use Rattle.wv_insn.proofs.Readers.{IsBytes}
 use Rattle.wv_model.specs.PlainPool.{pool_bytes, IsPlainPool}
 use Rattle.wv_model.specs.PlainCode.{Role}
 use Rattle.wv_model.specs.PlainClass.{IsPlainClass, IsPlainAs}
-use Rattle.wv_pool.specs.Entries as entire
 use Rattle.wv_pool.specs.Reading.{pool_at}
 use Rattle.wv_pool.proofs.Slots.{pool_again}
 use Rattle.wv_weave.specs.Checking.{Tells}

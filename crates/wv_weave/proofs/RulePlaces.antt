@@ -1,19 +1,18 @@
 -- The places of rules 30 and 51, from what is read of the two class files.
-use Rattle.std.proofs.Common.{◌≡◌, ◌↔◌, ℕ, zero, suc, ◌+◌, ◌<◌, ◌≤◌, ◌⊎◌, inl, inr, List, [], ◌∷◌, ◌++◌, length, get_or, map, take, codes, Option, Some, None, Contains, AllPairs, refl, sym, ap, subst, ◌∙◌, arith}
-use Rattle.std.specs.Prelude.{decimal}
+use Rattle.std.proofs.Common.{◌≡◌, ℕ, zero, suc, ◌+◌, ◌<◌, ◌⊎◌, inl, inr, List, [], ◌∷◌, ◌++◌, length, get_or, map, take, codes, Option, Some, None, Contains, refl, sym, ap, subst, ◌∙◌, arith}
 use Rattle.std.proofs.lemmas.List.Elements.{All-cons}
 use Rattle.std.proofs.lemmas.List.Kept.{AllPairs-cons}
-use Rattle.wv_base.specs.Folder.{File, IsPathBefore, content_of}
+use Rattle.wv_base.specs.Folder.{File, content_of}
 use Rattle.wv_base.specs.declared.broken.Broken.{Broken}
 use Rattle.wv_base.specs.declared.rule.Rule.TheVariants.{OverwriteMissing}
 use Rattle.wv_base.specs.declared.class_file.ClassFile.{ClassFile}
 use Rattle.wv_base.specs.declared.class_file.Member.{Member}
-use Rattle.wv_model.specs.FirstForm.{class_path, class_bad, BreaksLayout, BreaksOverwrite, HasClass, overwrite_missing, shown_method, ArePlaces, Holds, IsFirstPlace}
-use Rattle.wv_model.specs.PlainClass.{magic, HasMagic, IsMagicFault, IsPlainClass, IsPlainAs, AreSame}
+use Rattle.wv_model.specs.FirstForm.{class_path, class_bad, BreaksLayout, BreaksOverwrite, HasClass, overwrite_missing, shown_method, Holds, IsFirstPlace}
+use Rattle.wv_model.specs.PlainClass.{magic, HasMagic, IsMagicFault, IsPlainClass, AreSame}
 use Rattle.wv_model.specs.PlainCode.{Role, Game, Mixin}
-use Rattle.wv_model.specs.WithoutNotes.{bare_method, without_notes}
+use Rattle.wv_model.specs.WithoutNotes.{bare_method}
 use Rattle.wv_model.proofs.OneClass.{one_game, one_plain}
-use Rattle.wv_model.proofs.PlaceOrder.{path_of, Before, none_pairs, contains_head, contains_later, contains_parts}
+use Rattle.wv_model.proofs.PlaceOrder.{Before, none_pairs, contains_head, contains_later, contains_parts}
 use Rattle.wv_weave.specs.ClassRead.{IsReadOf}
 use Rattle.wv_weave.specs.declared.class_read.ClassRead.{ClassRead}
 use Rattle.wv_weave.specs.declared.class_read.ClassRead.TheVariants as reads
@@ -61,11 +60,13 @@ module _ (folder : List File) where
   none_there found = omega (arith, found.1)
 
   one_place : (Breaks : Broken → Type 0) (place : Broken) → Breaks place → ((b : Broken) → Breaks b → b ≡ place) → IsFirstPlace Breaks place
-  one_place Breaks place breaks only =
-      ([], record {
-        ordered = none_pairs place;
-        exact = λ b. (λ found. there b (contains_parts place b [] found), λ h. subst (Contains (place ∷ [])) (sym (only b h)) (contains_head place []));
-      })
+  one_place Breaks place breaks only = (
+    [],
+    record {
+      ordered = none_pairs place;
+      exact = λ b. (λ found. there b (contains_parts place b [] found), λ h. subst (Contains (place ∷ [])) (sym (only b h)) (contains_head place []));
+    },
+  )
     where
       there : (b : Broken) → (b ≡ place) ⊎ Contains [] b → Breaks b
       there b (inl e) = subst Breaks (sym e) breaks
@@ -75,11 +76,13 @@ module _ (folder : List File) where
   no_place Breaks none = record { ordered = λ i j d lt within. absurd (omega arith); exact = λ b. (λ found. absurd (none_there found), λ h. absurd (none b h)) }
 
   two_places : (Breaks : Broken → Type 0) (first second : Broken) → Before first second → Breaks first → Breaks second → ((b : Broken) → Breaks b → (b ≡ first) ⊎ (b ≡ second)) → IsFirstPlace Breaks first
-  two_places Breaks first second before a c only =
-      (second ∷ [], record {
-        ordered = AllPairs-cons Before first (second ∷ []) (All-cons (Before first) second [] before (λ i d lt. absurd (omega arith))) (none_pairs second);
-        exact = λ b. (λ found. there b (contains_parts first b (second ∷ []) found), λ h. back b (only b h));
-      })
+  two_places Breaks first second before a c only = (
+    second ∷ [],
+    record {
+      ordered = AllPairs-cons Before first (second ∷ []) (All-cons (Before first) second [] before (λ i d lt. absurd (omega arith))) (none_pairs second);
+      exact = λ b. (λ found. there b (contains_parts first b (second ∷ []) found), λ h. back b (only b h));
+    },
+  )
     where
       later : (b : Broken) → (b ≡ second) ⊎ Contains [] b → Breaks b
       later b (inl e) = subst Breaks (sym e) c

@@ -12,7 +12,7 @@ use Rattle.wv_model.specs.FirstForm.{class_path, json_files}
 use Rattle.wv_model.specs.PlainCode.{Game, Mixin}
 use Rattle.wv_weave.specs.declared.class_read.ClassRead.{ClassRead}
 use Rattle.wv_weave.specs.declared.class_read.ClassRead.TheVariants as reads
-use Rattle.wv_weave.specs.Outside.{IsMisplaced, IsOut, IsUnfit, IsFirstPath, lesser}
+use Rattle.wv_weave.specs.Outside.{IsUnfit, IsFirstPath, lesser}
 
 -- ---- The lesser of two first paths
 
@@ -71,10 +71,6 @@ lesser_first IsA IsB (Some first) None a b = (inl a.0, λ other such before. non
     none other (inl x) before = a.1 other x before
     none other (inr x) before = b other x
 lesser_first IsA IsB (Some first) (Some second) a b = either IsA IsB first second (is_lt (slice_cmp nat_cmp first second)) refl a b
-
-pub out_of_misplaced : (folder : List File) (game mixin : ClassRead) (path : List ℕ) → IsMisplaced folder path → IsOut folder game mixin path
-out_of_misplaced folder game mixin path (inl extra) = inl extra
-out_of_misplaced folder game mixin path (inr json) = inr (inl json)
 
 -- ---- The paths of the form
 

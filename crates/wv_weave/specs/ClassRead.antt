@@ -1,5 +1,5 @@
 -- What is read of a class file of the form (our own).
-use Rattle.std.specs.Prelude.{◌≡◌, ℕ, List, ◌⊎◌, Bool, MatchBool, Some, Result, Ok, Err}
+use Rattle.std.specs.Prelude.{◌≡◌, ℕ, List, ◌⊎◌, Some, Result, Ok, Err}
 use Rattle.wv_base.specs.declared.class_file.ClassFile.{ClassFile}
 use Rattle.wv_base.specs.declared.fault.ClassFault.{ClassFault}
 use Rattle.wv_base.specs.declared.fault.ClassFault.TheVariants as class_faults

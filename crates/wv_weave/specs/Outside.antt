@@ -1,15 +1,13 @@
 -- Which files of a folder are outside the form that is built (our own).
-use Rattle.std.specs.Prelude.{◌≡◌, ℕ, Bool, IsTrue, ◌⊎◌, List, bytes_eq, Option, Some, None, Result, Ok, Err, if◌then◌else◌}
+use Rattle.std.specs.Prelude.{◌≡◌, ℕ, Bool, IsTrue, ◌⊎◌, List, bytes_eq, Option, Some, None, if◌then◌else◌}
 use Rattle.std.specs.List.{IsAmong, list_any}
 use Rattle.std.specs.Cmp.Lexicographic.{slice_cmp}
 use Rattle.std.specs.Ordering.{nat_cmp, is_lt}
 use Rattle.wv_base.specs.Folder.{File, IsPathBefore, content_of}
-use Rattle.wv_model.specs.FirstForm.{class_path, counts, form_paths, json_files, out_of_form}
+use Rattle.wv_model.specs.FirstForm.{class_path, counts, form_paths, json_files}
 use Rattle.wv_model.specs.PlainCode.{Game, Mixin}
 use Rattle.wv_weave.specs.declared.class_read.ClassRead.{ClassRead}
 use Rattle.wv_weave.specs.declared.class_read.ClassRead.TheVariants as reads
-use Rattle.wv_weave.specs.declared.fault.WeaveFault.{WeaveFault}
-use Rattle.wv_weave.specs.declared.fault.WeaveFault.TheVariants as faults
 
 -- whether the path is one of the five of the form
 abbrev pub is_form_path : List ℕ → Bool
@@ -25,10 +23,6 @@ pub record IsExtra (folder : List File) (path : List ℕ) : Type 0 where
 -- a JSON file of the form has this path, and the folder doesn't have it with its text
 abbrev pub IsUnfitJson : List File → List ℕ → Type 0
 IsUnfitJson folder path = (text : List ℕ) × IsAmong json_files (path, text) × (content_of path folder ≡ Some text → ⊥)
-
--- a path at which the folder isn't of the form whatever its class files are
-abbrev pub IsMisplaced : List File → List ℕ → Type 0
-IsMisplaced folder path = IsExtra folder path ⊎ IsUnfitJson folder path
 
 -- a path of the form whose file isn't of the form, by what was read of the two class files
 abbrev pub IsUnfit : List File → ClassRead → ClassRead → List ℕ → Type 0
@@ -50,11 +44,3 @@ abbrev pub lesser : Option (List ℕ) → Option (List ℕ) → Option (List ℕ
 lesser None second = second
 lesser (Some first) None = Some first
 lesser (Some first) (Some second) = if is_lt (slice_cmp nat_cmp first second) then Some first else Some second
-
--- the folder is refused as one of a form that isn't built, and this path isn't before the one that is named;
--- want of memory is the free answer
-abbrev pub RefusesForm : {T : Type 0} → Result T WeaveFault → List ℕ → Type 0
-RefusesForm (Ok woven) path = ⊥
-RefusesForm (Err faults.Memory) path = Unit {0}
-RefusesForm (Err (faults.Broken broken)) path =
-    (first : List ℕ) × (broken ≡ out_of_form first) × (IsPathBefore path first → ⊥)

@@ -13,7 +13,7 @@ use Rattle.wv_base.specs.declared.fault.ClassFault.{ClassFault}
 use Rattle.wv_base.specs.declared.fault.ClassFault.TheVariants as class_faults
 use Rattle.wv_base.specs.declared.insn.Insn.{Insn}
 use Rattle.wv_base.specs.declared.insn.Insn.TheVariants as insns
-use Rattle.wv_base.specs.declared.note.Annotation.{Annotation, roll-Annotation}
+use Rattle.wv_base.specs.declared.note.Annotation.{roll-Annotation}
 use Rattle.wv_base.specs.declared.note.Element.TheVariants as elements
 use Rattle.wv_base.specs.declared.note.NamedElement.{NamedElement, roll-NamedElement}
 use Rattle.wv_base.specs.declared.note.Note.{Note}
@@ -179,7 +179,7 @@ insns_at role pool zero bytes = None
 insns_at role pool (suc most) bytes = do
   insn ← insn_at role pool bytes
   if is_return insn.0 then alone insn.0 insn.1
-    else (insns_at role pool most insn.1 >>= λ others. Some (insn.0 ∷ others))
+      else (insns_at role pool most insn.1 >>= λ others. Some (insn.0 ∷ others))
 
 -- ---- Annotations
 

@@ -44,7 +44,11 @@ pub(crate) fn named<'a>(pool: &Pool, text: &str, bytes: &'a [u8]) -> Option<&'a 
     ensures { option_copied result ≡ named_at pool.now text.now bytes.now }
 {
     let (number, rest) = short(bytes)?;
-    if is_that(pool.text(number), text) { Some(rest) } else { None }
+    if is_that(pool.text(number), text) {
+        Some(rest)
+    } else {
+        None
+    }
 }
 
 /// The bytes behind a number that names the class of this name.
@@ -53,7 +57,11 @@ pub(crate) fn class<'a>(pool: &Pool, name: &str, bytes: &'a [u8]) -> Option<&'a 
     ensures { option_copied result ≡ class_at pool.now name.now bytes.now }
 {
     let (number, rest) = short(bytes)?;
-    if is_that(pool.class_name(number), name) { Some(rest) } else { None }
+    if is_that(pool.class_name(number), name) {
+        Some(rest)
+    } else {
+        None
+    }
 }
 
 /// The text whose number stands at the front.
@@ -82,10 +90,12 @@ pub(crate) fn field(pool: &Pool, number: u16) -> Option<Referred<'_>>
     ensures { option_map (λ m. record { owner = m.owner.now; name = m.name.now; descriptor = m.descriptor.now }) result ≡ field_in pool.now (entry_of pool.now number) }
 {
     match pool.entry(number) {
-        Some(PoolEntry::Field {
-            class,
-            name_and_type,
-        }) => member_at(pool, *class, *name_and_type),
+        Some(
+            PoolEntry::Field {
+                class,
+                name_and_type,
+            },
+        ) => member_at(pool, *class, *name_and_type),
         _ => None,
     }
 }
@@ -95,10 +105,12 @@ pub(crate) fn method(pool: &Pool, number: u16) -> Option<Referred<'_>>
     ensures { option_map (λ m. record { owner = m.owner.now; name = m.name.now; descriptor = m.descriptor.now }) result ≡ method_in pool.now (entry_of pool.now number) }
 {
     match pool.entry(number) {
-        Some(PoolEntry::Method {
-            class,
-            name_and_type,
-        }) => member_at(pool, *class, *name_and_type),
+        Some(
+            PoolEntry::Method {
+                class,
+                name_and_type,
+            },
+        ) => member_at(pool, *class, *name_and_type),
         _ => None,
     }
 }

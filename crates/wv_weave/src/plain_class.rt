@@ -76,12 +76,20 @@ fn end(pool: &Pool, role: Role, bytes: &[u8]) -> Option<()>
 {
     match role {
         Role::Game => {
-            if bytes == [0, 0].as_slice() { Some(()) } else { None }
+            if bytes == [0, 0].as_slice() {
+                Some(())
+            } else {
+                None
+            }
         }
         Role::Mixin => {
             let rest = expect(1, bytes)?;
             let (table, rest) = attribute(pool, TABLE, rest)?;
-            if rest.is_empty() { mixin(pool, table) } else { None }
+            if rest.is_empty() {
+                mixin(pool, table)
+            } else {
+                None
+            }
         }
     }
 }
@@ -192,11 +200,7 @@ fn has_head(bytes: &[u8]) -> bool
 }
 
 /// Reads a plain class of the role, all of the bytes.
-pub(crate) fn read_plain(
-    alloc: Global,
-    role: Role,
-    bytes: &[u8],
-) -> Result<ClassFile, PlainFault>
+pub(crate) fn read_plain(alloc: Global, role: Role, bytes: &[u8]) -> Result<ClassFile, PlainFault>
     ensures { Finds (role_of role) bytes.now result }
 {
     plain(has_head(bytes))?;

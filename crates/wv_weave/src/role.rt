@@ -1,10 +1,10 @@
 //! The two classes of the form.
 
-use crate::form::{GAME_CLASS, MIXIN_CLASS};
-
 ghost use Rattle.std.specs.Prelude.{◌≡◌};
 ghost use Rattle.wv_model.specs.PlainCode.{class_name};
 ghost use Rattle.wv_weave.specs.Role.{role_of};
+
+use crate::form::{GAME_CLASS, MIXIN_CLASS};
 
 /// What a class is to the form.
 #[derive(Clone, Copy, Debug, PartialEq, Eq)]

@@ -3,10 +3,10 @@ ghost use Rattle.std.specs.Prelude.{◌≡◌, [], ◌∷◌, length, MatchBool,
 ghost use Rattle.wv_weave.specs.Checking.{Answers, checks, type_of, taken, added, dropped, printed, next_plain, next_push, next_reference, next, IsNext};
 
 use crate::fault::PlainFault;
+use crate::number::plain;
 use crate::opcode::{
     BIPUSH, GETSTATIC, IADD, ICONST_0, ICONST_5, IMUL, INVOKESTATIC, INVOKEVIRTUAL, POP, RETURN,
 };
-use crate::number::plain;
 use std::alloc::Global;
 use std::marker::Model;
 use wv_base::{Insn, Memory};

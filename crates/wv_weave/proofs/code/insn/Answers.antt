@@ -1,4 +1,4 @@
-use Rattle.std.proofs.Common.{◌≡◌, ◌+◌, ◌<◌, get_or, drop, List, ℕ, Option, Some, None, Result, Ok, Err, refl, sym, ap, ◌∙◌, arith, rules}
+use Rattle.std.proofs.Common.{◌≡◌, ◌+◌, drop, List, ℕ, Err, arith, rules}
 use Rattle.std.proofs.lemmas.List.{get_or-drop}
 use Rattle.wv_base.specs.declared.class_file.PoolEntry.{PoolEntry}
 use Rattle.wv_insn.proofs.Readers.{IsBytes}
@@ -24,7 +24,7 @@ pub returns-in_err-plain_insn-in-Ok-clause-read : goal.returns-in_err-plain_insn
 returns-in_err-plain_insn-in-Ok-clause-read c =
     let e : c.from_residual.result ≡ Err c.in_err-plain_insn-in-Ok.field-0.0 = search rules in
     rw e (failed (role_of c.args.role) c.args.pool.now c.args.code.now c.args.at c.in-Ok.length c.in-Ok.raw c.in_err-plain_insn-in-Ok.field-0.0
-      (behind c.args.code.now c.args.at (λ i. omega (arith, c.type_inv.code i))) c.in-Ok.ensures.found c.in_err-plain_insn-in-Ok.ensures)
+    (behind c.args.code.now c.args.at (λ i. omega (arith, c.type_inv.code i))) c.in-Ok.ensures.found c.in_err-plain_insn-in-Ok.ensures)
 
 pub returns-in_ok-plain_insn-in-Ok-clause-read : goal.returns-in_ok-plain_insn-in-Ok-clause-read
 returns-in_ok-plain_insn-in-Ok-clause-read c =

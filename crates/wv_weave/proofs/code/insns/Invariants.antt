@@ -1,4 +1,4 @@
-use Rattle.std.proofs.Common.{◌≡◌, ◌≤◌, length}
+use Rattle.std.proofs.Common.{◌≤◌, length}
 use Rattle.wv_weave.specs.Role.{role_of}
 use Rattle.wv_weave.proofs.CodeLoops.{Still}
 use Rattle.wv_weave.proofs.code.insns.Given as goal

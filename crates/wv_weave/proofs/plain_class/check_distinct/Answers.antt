@@ -1,7 +1,5 @@
-use Rattle.std.proofs.Common.{◌≡◌, true, Err, take, sym, ◌∙◌, arith, rules, tests}
-use Rattle.std.specs.Prelude.{not}
-use Rattle.std.specs.BTreeSet.{contains}
-use Rattle.wv_weave.proofs.MethodKeys.{key_cmp, key_of, next_keys, told_twice}
+use Rattle.std.proofs.Common.{◌≡◌, true, Err, sym, ◌∙◌, arith, rules, tests}
+use Rattle.wv_weave.proofs.MethodKeys.{next_keys, told_twice}
 use Rattle.wv_weave.proofs.plain_class.check_distinct.Goals as goal
 
 pub returns-in_err-plain : goal.returns-in_err-plain
@@ -10,7 +8,7 @@ returns-in_err-plain c =
     let key = c.in_ok-copy.ensures in
     let other = c.in_ok-copy-2.ensures in
     rw e (told_twice c.loop-method.seen c.args.methods.now c.loop-method.method-index c.method-item.result c.in_ok-insert.field-0 c.in_err-plain.field-0.0 (omega arith) c.method-item.is c.loop-method.invariant
-      (rw (key, other) at c.in_ok-insert.ensures.added) c.in_err-plain.ensures)
+    (rw (key, other) at c.in_ok-insert.ensures.added) c.in_err-plain.ensures)
 
 pub loop-method-preserved : goal.loop-method-preserved
 loop-method-preserved c =

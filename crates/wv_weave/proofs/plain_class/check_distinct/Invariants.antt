@@ -1,4 +1,4 @@
-use Rattle.std.proofs.Common.{◌≡◌, take}
+use Rattle.std.proofs.Common.{take}
 use Rattle.wv_weave.proofs.MethodKeys.{HasKeys}
 use Rattle.wv_weave.proofs.plain_class.check_distinct.Given as goal
 

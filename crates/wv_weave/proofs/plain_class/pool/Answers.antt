@@ -1,8 +1,7 @@
-use Rattle.std.proofs.Common.{◌≡◌, ◌↔◌, Ok, Err, Some, sym, subst, ◌∙◌, rules, tests}
+use Rattle.std.proofs.Common.{◌≡◌, ◌↔◌, Err, sym, subst, rules, tests}
 use Rattle.std.specs.Prelude.{IsTrue}
 use Rattle.std.specs.List.{AllByRecursion}
 use Rattle.wv_weave.specs.PlainKinds.{IsPlainKind}
-use Rattle.wv_weave.specs.Reading.{split_at}
 use Rattle.wv_weave.proofs.PoolFinds.{no_pool, other_kinds, too_short, pool_found}
 use Rattle.wv_weave.proofs.plain_class.pool.Goals as goal
 

@@ -3,7 +3,7 @@ use Rattle.std.proofs.lemmas.List.{take_rest}
 use Rattle.wv_weave.specs.Role.{role_of}
 use Rattle.wv_weave.specs.Reading.{has_head, fits_role}
 use Rattle.wv_weave.proofs.PlainPools.{plain_kinds}
-use Rattle.wv_weave.proofs.PlainReads.{head_refused, pool_refused, role_refused, methods_refused, distinct_refused, plain_found}
+use Rattle.wv_weave.proofs.PlainReads.{head_refused, role_refused, methods_refused, distinct_refused, plain_found}
 use Rattle.wv_weave.proofs.plain_class.read_plain.Goals as goal
 
 pub returns-in_err-plain : goal.returns-in_err-plain
