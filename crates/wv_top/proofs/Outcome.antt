@@ -16,7 +16,8 @@ use Rattle.wv_top.specs.declared.status.Status.TheVariants.{Done, Refused, Usage
 use Rattle.wv_top.specs.Words.{Command}
 use Rattle.wv_top.specs.Lines.{usage_line, summary_line, form_summary}
 use Rattle.wv_top.specs.Reading.{WhereTold, IsReadingOf}
-use Rattle.wv_top.specs.Rules.{IsWovenOf, Weaves}
+use Rattle.wv_top.specs.Rules.{IsWovenOf, MeansOf, Weaves}
+use Rattle.wv_model.proofs.FirstMeaning.{woven_corresponds}
 use Rattle.wv_top.specs.Puts.{AreWritten, Puts, with_files}
 use Rattle.wv_top.specs.Ends.{FitsRules, IsLineOf, Prints, refuses, sums_up}
 use Rattle.wv_top.proofs.ReadFolder.{where_from}
@@ -72,6 +73,7 @@ module _ (asked : Option Command) (command : Command) (told : Option Folders) (i
         record {
           order = order;
           meets = where_from told command.folder (λ files. NoneBrokenOf files × IsWovenOf files written) (λ files. IsWovenOf files written) woven (λ files w. w.1);
+          means = where_from told command.folder (λ files. NoneBrokenOf files × IsWovenOf files written) (λ files. MeansOf files written) woven (λ files w. (w.1.0, w.1.1, woven_corresponds w.1.0 written w.1.2));
         }
 
     none_told : WhereTold told command.folder NoneBrokenOf

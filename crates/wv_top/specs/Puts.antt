@@ -5,7 +5,7 @@ use Rattle.wv_base.specs.Folder.{File, IsInOrder}
 use Rattle.wv_tree.specs.Tree.{Folders}
 use Rattle.wv_tree.specs.declared.outlet.PutFile.{PutFile}
 use Rattle.wv_top.specs.Reading.{WhereTold}
-use Rattle.wv_top.specs.Rules.{IsWovenOf}
+use Rattle.wv_top.specs.Rules.{IsWovenOf, MeansOf}
 use Rattle.wv_top.specs.Words.{Command}
 use Rattle.wv_top.specs.declared.status.Status.{Status}
 use Rattle.wv_top.specs.declared.status.Status.TheVariants.{Done, Refused, Usage, ReadFault, WriteFault, Memory}
@@ -18,10 +18,12 @@ put_file name file = record { folder = name; path = file.0; bytes = file.1 }
 abbrev pub with_files : List ℕ → List File → Option (List PutFile) → Option (List PutFile)
 with_files name files told = option_map (λ before. before ++ map (put_file name) files) told
 
--- the written files for the command's folder, in the order of their paths
+-- the written files for the command's folder, in the order of their paths, which do what the folder's game class does
+-- under its mixin
 pub record AreWritten (command : Command) (told : Option Folders) (written : List File) : Type 0 where
   pub order : IsInOrder written
   pub meets : WhereTold told command.folder (λ files. IsWovenOf files written)
+  pub means : WhereTold told command.folder (λ files. MeansOf files written)
 
 -- the written files were put under the command's name, and no others
 abbrev pub PutsAll : Command → Option Folders → Option (List PutFile) → Option (List PutFile) → Type 0

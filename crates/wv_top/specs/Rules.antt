@@ -4,6 +4,7 @@ use Rattle.wv_base.specs.Folder.{File}
 use Rattle.wv_base.specs.declared.broken.Broken.{Broken}
 use Rattle.wv_model.specs.FirstForm.{FirstBroken, FirstBrokenOf, NoneBrokenOf, out_of_form}
 use Rattle.wv_model.specs.FolderRead.{IsReading, PassesLimit}
+use Rattle.wv_model.specs.FirstMeaning.{MeansFolder}
 use Rattle.wv_model.specs.MemberTable.{IsWoven}
 use Rattle.wv_weave.specs.declared.fault.WeaveFault.{WeaveFault}
 use Rattle.wv_weave.specs.declared.fault.WeaveFault.TheVariants as faults
@@ -12,6 +13,10 @@ use Rattle.wv_weave.specs.declared.weaver.Woven.{Woven}
 -- the written files for the files of a folder, of which those that count are read
 abbrev pub IsWovenOf : List File → List File → Type 0
 IsWovenOf files written = (folder : List File) × IsReading files folder × IsWoven folder written
+
+-- the written files do what the folder's game class does under its mixin, of the files that are read
+abbrev pub MeansOf : List File → List File → Type 0
+MeansOf files written = (folder : List File) × IsReading files folder × MeansFolder folder written
 
 -- the files of a folder break a rule
 abbrev pub SomeBrokenOf : List File → Type 0

@@ -4,7 +4,9 @@ use Rattle.wv_base.specs.Folder.{File}
 use Rattle.wv_base.specs.declared.broken.Broken.{Broken}
 use Rattle.wv_base.specs.declared.class_file.ClassFile.{ClassFile}
 use Rattle.wv_model.specs.FirstForm.{class_path, class_bad, out_of_form, BreaksForm, Holds, FirstBroken, NoneBroken, Unlimited, form_broken, layout_broken, overwrite_broken}
+use Rattle.wv_model.specs.FirstMeaning.{MeansFolder}
 use Rattle.wv_model.specs.MemberTable.{IsWoven}
+use Rattle.wv_model.proofs.FirstMeaning.{woven_corresponds}
 use Rattle.wv_model.specs.PlainCode.{Game, Mixin}
 use Rattle.wv_weave.specs.ClassRead.{IsReadOf}
 use Rattle.wv_weave.specs.declared.class_read.ClassRead.{ClassRead}
@@ -74,3 +76,7 @@ module _ (folder : List File) where
   answer_broken (Ok woven) is broken e = absurd cc
   answer_broken (Err (faults.Broken other)) is broken e = subst (FirstBroken Unlimited folder) (broken_is other broken e) is
   answer_broken (Err faults.Memory) is broken e = absurd cc
+
+  pub answer_means : (result : Answer) → IsAnswer result → IfOk result (λ woven. MeansFolder folder woven.files)
+  answer_means (Ok woven) is = woven_corresponds folder woven.files is.1
+  answer_means (Err fault) is = tt

@@ -1,6 +1,7 @@
 //! The weaver: the first broken rule of a folder, or the files that it is woven to.
 ghost use Rattle.std.specs.Prelude.{◌≡◌, ◌++◌, ℕ, List, [], ◌∷◌, IfOk, IfErr};
 ghost use Rattle.wv_base.specs.declared.broken.Broken.{Broken as BrokenRule};
+ghost use Rattle.wv_model.specs.FirstMeaning.{MeansFolder};
 ghost use Rattle.wv_model.specs.MemberTable.{written_path, IsWoven};
 ghost use Rattle.wv_model.specs.PlainCode.{Game, Mixin};
 ghost use Rattle.wv_model.specs.PlainClass.{IsPlainClass};
@@ -184,6 +185,7 @@ fn apply(alloc: Global, game: ClassRead, mixin: ClassRead) -> Result<Woven, Weav
 /// number, and OverwriteMissing.
 pub fn weave(alloc: Global, folder: &Folder, _side: Side) -> Result<Woven, WeaveFault>
     ensures woven { IfOk result (λ woven. NoneBroken Unlimited folder.now × IsWoven folder.now woven.files) }
+    ensures means { IfOk result (λ woven. MeansFolder folder.now woven.files) }
     ensures one_edit { IfOk result IsOneEdit }
     ensures broken { (broken : BrokenRule) → result ≡ Err (WeaveFault.Broken broken) → FirstBroken Unlimited folder.now broken }
 {
