@@ -4,10 +4,18 @@ use crate::assembler::RETURN;
 use crate::form::{
     File, NONE, PRINTS_SEVEN, WEAVE, WOVEN, files, folder, main_class, mixin_class, refuses, run,
 };
+use std::process::Abort;
 use std::test::Fail;
-use wv_base::{Insn, Side};
+use wv_base::{ClassFile, Insn, Side};
 use wv_top::Status;
 use wv_weave::{WeaveFault, is_plain, is_writable, read_class, weave, write_class};
+
+/// The class of bytes that are plain.
+fn read_plain(rt: &(impl Abort + AllocGlobal), bytes: &[u8]) -> Result<ClassFile, Fail> {
+    let alloc = rt.alloc();
+    assert!(rt; is_plain(alloc, bytes)?);
+    Ok(read_class(alloc, bytes)?)
+}
 
 #[test]
 fn one_overwrite_is_woven(rt: HostRuntime) -> Result<(), Fail> {
@@ -22,9 +30,7 @@ fn one_overwrite_is_woven(rt: HostRuntime) -> Result<(), Fail> {
         outcome.put[0].path.as_slice(),
         b"app/Main.class".as_slice()
     );
-    let bytes = outcome.put[0].bytes.as_slice();
-    assert!(rt; is_plain(alloc, bytes)?);
-    let class = read_class(alloc, bytes)?;
+    let class = read_plain(&rt, outcome.put[0].bytes.as_slice())?;
     assert!(rt; class.name.is_ascii("app/Main"));
     assert_eq!(rt; class.methods.len(), 2);
     let f = class.methods.get(1).ok_or("the second method")?;
@@ -86,14 +92,12 @@ fn words_that_are_no_command_are_answered(rt: HostRuntime) -> Result<(), Fail> {
 fn a_written_class_is_read_again(rt: HostRuntime) -> Result<(), Fail> {
     let alloc = rt.alloc();
     let bytes = main_class(alloc)?;
-    assert!(rt; is_plain(alloc, bytes.as_slice())?);
-    let class = read_class(alloc, bytes.as_slice())?;
+    let class = read_plain(&rt, bytes.as_slice())?;
     assert!(rt; is_writable(alloc, &class)?);
     let written = write_class(alloc, &class)?;
     assert!(rt; written.len() > 100 && bytes.len() > 100);
     assert_eq!(rt; &written.as_slice()[10..100], &bytes[10..100]);
-    assert!(rt; is_plain(alloc, written.as_slice())?);
-    let again = read_class(alloc, written.as_slice())?;
+    let again = read_plain(&rt, written.as_slice())?;
     assert_eq!(rt; again.methods.len(), class.methods.len());
     let files = files(alloc, mixin_class(alloc, "f", &PRINTS_SEVEN)?, None)?;
     match weave(alloc, &folder(&rt, files)?, Side::Client) {
