@@ -7,3 +7,6 @@ pub mod Meaning
 pub mod Code
 pub mod Writing
 pub mod Splitting
+pub mod Content
+pub mod Breaks
+pub mod Body

@@ -8,6 +8,7 @@ mod formed;
 mod laws;
 mod laying;
 mod opcode;
+mod raw_body;
 mod size;
 mod splitting;
 mod writing;
@@ -16,6 +17,7 @@ pub use code_layout::{CodeLayout, Offsets};
 pub use formed::are_formed;
 pub use laws::{one_layout, size_of_what_is_spelled};
 pub use laying::layout;
+pub use raw_body::{RawAttribute, RawBody, RawRange};
 pub use splitting::{RawCode, split_code};
 pub use writing::write_insns;
 
