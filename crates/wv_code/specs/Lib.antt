@@ -7,6 +7,7 @@ pub mod Meaning
 pub mod Code
 pub mod Writing
 pub mod Splitting
+pub mod Answers
 pub mod Content
 pub mod Breaks
 pub mod Body

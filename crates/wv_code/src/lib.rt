@@ -11,6 +11,7 @@ mod opcode;
 mod raw_body;
 mod size;
 mod splitting;
+mod stop;
 mod writing;
 
 pub use code_layout::{CodeLayout, Offsets};
