@@ -8,6 +8,7 @@ pub mod Code
 pub mod Writing
 pub mod Splitting
 pub mod Answers
+pub mod Reading
 pub mod Content
 pub mod Breaks
 pub mod Body

@@ -7,6 +7,7 @@ mod entering;
 mod formed;
 mod laws;
 mod laying;
+mod number;
 mod opcode;
 mod raw_body;
 mod size;
