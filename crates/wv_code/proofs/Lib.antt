@@ -10,3 +10,4 @@ pub mod Written
 pub mod Splits
 pub mod Readers
 pub mod Numbers
+pub mod Insns

@@ -12,3 +12,6 @@ pub mod Reading
 pub mod Content
 pub mod Breaks
 pub mod Body
+pub mod Fitting
+pub mod Behind
+pub mod ContentReading

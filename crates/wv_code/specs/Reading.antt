@@ -1,7 +1,7 @@
--- Reading the content of a Code attribute, whose bytes fill it exactly, from left to right (JVM Specification 4.7.3). Of the
--- content so many bytes behind the given ones are missing. A fault is the number of bytes that are left from it on, 0 where
--- the bytes end. That this is the reading of the content's spelling and of no other bytes, the clauses of `read_layout` say.
-use Rattle.std.specs.Prelude.{◌≡◌, ℕ, zero, suc, ◌+◌, ◌-◌, ◌*◌, ◌/◌, ◌%◌, ◌^◌, Bool, true, false, ◌==◌, ◌&&◌, ◌||◌, nat_lt, nat_le, if◌then◌else◌, List, [], ◌∷◌, length, take, drop, Option, Some, None, Result, Ok, Err, codes}
+-- Numbers that have to fit the room behind them, and instructions one behind the other. Of the bytes so many behind the given
+-- ones are missing. A fault is the number of bytes that are left from it on, 0 where the bytes end.
+use Rattle.std.specs.Prelude.{ℕ, zero, suc, ◌+◌, ◌-◌, ◌*◌, ◌^◌, Bool, false, true, ◌==◌, if◌then◌else◌, List, [], ◌∷◌, length, Result, Ok, Err}
+use Rattle.wv_insn.specs.declared.raw.Raw.{Raw}
 use Rattle.wv_pool.specs.Reading.{◌>>=◌}
 
 -- some number below passes the test
@@ -20,3 +20,12 @@ number_from test (suc width) n (byte ∷ rest) =
 -- a number of so many bytes that passes the test for the room behind it
 abbrev pub number_at : ℕ → (ℕ → ℕ → Bool) → ℕ → List ℕ → Result (ℕ × List ℕ) ℕ
 number_at width test missing bytes = number_from (test (length bytes + missing - width)) width 0 bytes
+
+-- Instructions one behind the other up to where the tail begins, each read from its offset on, with their offsets.
+unfoldable pub insns_from : (ℕ → ℕ → ℕ → List ℕ → Result (Raw × List ℕ) ℕ) → (steps at tail missing : ℕ) → List ℕ → Result ((List Raw × List ℕ) × List ℕ) ℕ
+insns_from one zero at tail missing bytes = Ok (([], []), bytes)
+insns_from one (suc steps) at tail missing bytes =
+    if length bytes + missing == tail then Ok (([], []), bytes) else (do
+      insn ← one at tail missing bytes
+      others ← insns_from one steps (at + (length bytes - length insn.1)) tail missing insn.1
+      Ok ((insn.0 ∷ others.0.0, at ∷ others.0.1), others.1))
