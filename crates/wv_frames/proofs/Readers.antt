@@ -89,14 +89,14 @@ renamed {A} {read} {P} {Q} S T to from r = record {
   again = λ missing value text rest s q. r.again missing value text rest (from value text s) q;
   stops = λ missing bytes left fits p e. elim (r.stops missing bytes left fits p e) [
     | inl d ↦ inl (record {
-        front = d.front;
-        byte = d.byte;
-        rest = d.rest;
-        parts = d.parts;
-        place = d.place;
-        stays = d.stays;
-        begun = begun_renamed S T to d.front (suc (length d.rest + missing)) d.begun;
-      })
+      front = d.front;
+      byte = d.byte;
+      rest = d.rest;
+      parts = d.parts;
+      place = d.place;
+      stays = d.stays;
+      begun = begun_renamed S T to d.front (suc (length d.rest + missing)) d.begun;
+    })
     | inr d ↦ inr (record { place = d.place; some = d.some; begun = begun_renamed S T to bytes missing d.begun })
   ];
   there = λ n p. let f = r.there n p in record { value = f.value; text = f.text; more = f.more; spelled = to f.value f.text f.spelled; rest = f.rest; sum = f.sum };
@@ -168,25 +168,25 @@ module _ {A B : Type 0} {read : ℕ → List ℕ → Result (A × List ℕ) ℕ}
 
   first_stops : (missing : ℕ) (bytes : List ℕ) (left : ℕ) → Stopped read S Q missing bytes left → Stopped both (Then S T) R missing bytes left
   first_stops missing bytes left (inl d) = inl (record {
-      front = d.front;
-      byte = d.byte;
-      rest = d.rest;
-      parts = d.parts;
-      place = d.place;
-      begun = first_begins d.front (suc (length d.rest + missing)) d.begun;
-      stays = λ others more len. rw (d.stays others more len) refl;
-    })
+    front = d.front;
+    byte = d.byte;
+    rest = d.rest;
+    parts = d.parts;
+    place = d.place;
+    begun = first_begins d.front (suc (length d.rest + missing)) d.begun;
+    stays = λ others more len. rw (d.stays others more len) refl;
+  })
   first_stops missing bytes left (inr d) = inr (record { place = d.place; some = d.some; begun = first_begins bytes missing d.begun })
 
   second_begins : (x : A) (text front : List ℕ) (k : ℕ) → S x text → Begun (T x) R front k → Begun (Then S T) R (text ++ front) k
   second_begins x text front k s d = record {
-      value = d.value;
-      more = d.more;
-      extra = d.extra;
-      spelled = record { first = x; front = text; back = front ++ d.more; parts = append_assoc text front d.more; first_is = s; second_is = d.spelled };
-      rest = d.rest;
-      sum = d.sum;
-    }
+    value = d.value;
+    more = d.more;
+    extra = d.extra;
+    spelled = record { first = x; front = text; back = front ++ d.more; parts = append_assoc text front d.more; first_is = s; second_is = d.spelled };
+    rest = d.rest;
+    sum = d.sum;
+  }
 
   second_stops : (missing : ℕ) (bytes : List ℕ) (left : ℕ) (x : A × List ℕ) → Taken S Q missing bytes x → Stopped (next x.0) (T x.0) R missing x.1 left → Stopped both (Then S T) R missing bytes left
   second_stops missing bytes left x t (inl d) =
