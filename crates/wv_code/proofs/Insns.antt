@@ -9,7 +9,7 @@ use Rattle.wv_insn.specs.declared.raw.Raw.TheVariants as raws
 use Rattle.wv_insn.specs.Spelling.{Spells}
 use Rattle.wv_pool.specs.Reading.{◌>>=◌}
 use Rattle.wv_code.specs.Reading.{insns_from}
-use Rattle.wv_code.proofs.Readers.{IsBytes, IsBytes-behind, Fill, Begun, Broken, Ended, Stopped, Taken, Reads, ok_is, bind_ok, bind_err}
+use Rattle.wv_frames.proofs.Readers.{IsBytes, IsBytes-behind, Fill, Begun, Broken, Ended, Stopped, Taken, Reads, ok_is, bind_ok, bind_err}
 
 abbrev pub Code : Type 0
 Code = List Raw × List ℕ

@@ -8,6 +8,5 @@ pub mod Sizes
 pub mod Follows
 pub mod Written
 pub mod Splits
-pub mod Readers
 pub mod Numbers
 pub mod Insns
