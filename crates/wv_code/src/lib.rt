@@ -4,6 +4,7 @@
 mod code_layout;
 mod constants;
 mod entering;
+mod fitting;
 mod formed;
 mod laws;
 mod laying;
@@ -13,6 +14,7 @@ mod raw_body;
 mod size;
 mod splitting;
 mod stop;
+mod switch_number;
 mod writing;
 
 pub use code_layout::{CodeLayout, Offsets};
