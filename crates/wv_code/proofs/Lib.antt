@@ -10,5 +10,5 @@ pub mod Written
 pub mod Splits
 pub mod Readers
 pub mod Numbers
-pub mod Fitting
+pub mod InsnReads
 pub mod SwitchNumbers
