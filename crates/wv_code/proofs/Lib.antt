@@ -10,3 +10,5 @@ pub mod Written
 pub mod Splits
 pub mod Numbers
 pub mod Insns
+pub mod SwitchNumbers
+pub mod InsnReads

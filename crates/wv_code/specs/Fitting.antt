@@ -12,7 +12,7 @@ use Rattle.wv_insn.specs.Spelling.{padding, targets}
 use Rattle.wv_insn.specs.Reading.{bytes_at, instruction_at}
 use Rattle.wv_code.specs.declared.switch_number.SwitchPart.{SwitchPart}
 use Rattle.wv_code.specs.declared.switch_number.SwitchPart.TheVariants as parts
-use Rattle.wv_code.specs.Reading.{number_at}
+use Rattle.wv_code.specs.Number.{number_at}
 
 -- how many bytes stand at least behind an opcode whose operands have this form, where it stands at this offset (6.5, "Format")
 abbrev pub least_behind : ℕ → Form → ℕ

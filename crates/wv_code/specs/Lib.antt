@@ -8,10 +8,10 @@ pub mod Code
 pub mod Writing
 pub mod Splitting
 pub mod Answers
+pub mod Number
 pub mod Reading
 pub mod Content
 pub mod Breaks
 pub mod Body
 pub mod Fitting
 pub mod Behind
-pub mod ContentReading

@@ -1,6 +1,6 @@
 //! Numbers of switches that have to fit the room that is left of the code.
 ghost use Rattle.std.specs.Prelude.{◌≡◌, ◌<◌, ◌^◌, true};
-ghost use Rattle.wv_code.specs.Fitting.{part_behind, part_fits};
+ghost use Rattle.wv_code.specs.Fitting.{may_be, part_behind, part_fits};
 
 use wv_insn::targets;
 use wv_room::Allows;
@@ -30,8 +30,22 @@ pub(crate) struct SwitchNumber {
 const LEAST: u32 = 0x8000_0000;
 
 impl SwitchNumber {
+    /// Whether the number may have this value, whatever stands behind it.
+    fn may_be(&self, value: u32) -> bool
+        ensures { result ≡ may_be self.now.part value }
+    {
+        match self.part {
+            SwitchPart::Count => value < LEAST,
+            _ => true,
+        }
+    }
+
     /// How many bytes stand behind this value, at least.
-    fn behind(&self, value: u32) -> u64 {
+    #[tactic(auto, using(crate::proofs::SwitchNumbers::few_targets), unfolding(crate::specs::Fitting::part_behind))]
+    fn behind(&self, value: u32) -> u64
+        ensures value { result ≡ part_behind self.now.part value }
+        ensures few { result < 2 ^ 40 }
+    {
         match self.part {
             SwitchPart::Low => 4 + 4 * targets(value.cast_signed(), i32::MIN),
             SwitchPart::High { low } => 4 * targets(low, value.cast_signed()),
@@ -43,11 +57,9 @@ impl SwitchNumber {
 impl Allows for SwitchNumber {
     ghost allows = { λ s n. part_fits s.part s.tail s.room n ≡ true };
 
+    #[tactic(auto, unfolding(crate::specs::Fitting::part_fits))]
     fn allows_value(&self, value: u32) -> bool {
-        if self.part == SwitchPart::Count && value >= LEAST {
-            return false;
-        }
-        self.behind(value) + u64::from(self.tail) <= u64::from(self.room)
+        self.may_be(value) && self.behind(value) + u64::from(self.tail) <= u64::from(self.room)
     }
 
     fn allows_some(&self, least: u32, most: u32) -> bool {

@@ -37,7 +37,7 @@ opcode_alike (op ∷ rest) =
       | inr some ↦ rw some.1 refl
     ]
 
-opcode : Reads opcode_at Opcode
+pub opcode : Reads opcode_at Opcode
 opcode = alike (meant_at (λ op. with_form op (form_of op))) opcode_at Opcode opcode_alike (meant (λ op. with_form op (form_of op)) nop (nop, form.Plain) (omega arith) (rw nop_is refl))
 
 -- ---- behind `wide`
@@ -55,11 +55,11 @@ abbrev pub Widths : ℕ → Bool → Raw → List ℕ → Type 0
 Widths op false = Seen (λ slot. raw.Local op slot true) (Unsigned w16 (2 ^ 16))
 Widths op true = Then (Unsigned w16 (2 ^ 16)) (λ slot. Seen (λ by. raw.Inc slot by true) (Signed w16))
 
-abbrev widths_at : ℕ → Bool → List ℕ → Result (Raw × List ℕ) ℕ
+abbrev pub widths_at : ℕ → Bool → List ℕ → Result (Raw × List ℕ) ℕ
 widths_at op false bytes = unsigned_at w16 bytes >>= λ slot. Ok (raw.Local op slot.0 true, slot.1)
 widths_at op true bytes = unsigned_at w16 bytes >>= λ slot. signed_at w16 slot.1 >>= λ by. Ok (raw.Inc slot.0 by.0 true, by.1)
 
-widths : (op : ℕ) (increment : Bool) → Reads (widths_at op increment) (Widths op increment)
+pub widths : (op : ℕ) (increment : Bool) → Reads (widths_at op increment) (Widths op increment)
 widths op false = seen (λ slot. raw.Local op slot true) short_unsigned
 widths op true = then (λ slot bytes. signed_at w16 bytes >>= λ by. Ok (raw.Inc slot by.0 true, by.1)) short_unsigned (λ slot. seen (λ by. raw.Inc slot by true) short_signed)
 
@@ -90,7 +90,7 @@ wider = alike parted_at wide_at Wider wide_alike
 
 -- ---- cases
 
-one_case : Reads case_at (λ c text. IsCase c × (text ≡ case c))
+pub one_case : Reads case_at (λ c text. IsCase c × (text ≡ case c))
 unfolding case_at
 one_case =
     renamed (Then (Signed w32) (λ key. Seen (λ offset. record { key = key; offset = offset }) (Signed w32))) (λ c text. IsCase c × (text ≡ case c))
@@ -157,7 +157,7 @@ multi_array : Reads Reading.multi_array_at (Row 0 0 form.MultiArray)
 unfolding Reading.multi_array_at
 multi_array = then (λ number bytes. Reading.byte_at bytes >>= λ dimensions. Ok (raw.MultiArray number dimensions.0, dimensions.1)) short_unsigned (λ number. seen (λ dimensions. raw.MultiArray number dimensions) byte)
 
-operands : (at op : ℕ) (f : Form) → Reads (operands_at at op f) (Row at op f)
+pub operands : (at op : ℕ) (f : Form) → Reads (operands_at at op f) (Row at op f)
 unfolding operands_at Reading.push_byte_at Reading.push_short_at Reading.constant_at Reading.wide_constant_at Reading.local_at Reading.branch_at Reading.wide_branch_at Reading.reference_at Reading.class_at Reading.array_at
 operands at op form.Plain = done (raw.Plain op)
 operands at op form.Byte = seen (λ value. raw.Push op value) byte_signed

@@ -35,7 +35,7 @@ made : (at : ℕ) (q r : Raw) (bytes : List ℕ) → r ≡ q → Spells at q byt
 made at q r bytes e s = subst (λ (x : Raw). Spells at x bytes) (sym e) s
 
 -- the form behind `wide`
-abbrev wide_form : Bool → Form
+abbrev pub wide_form : Bool → Form
 wide_form false = form.Local
 wide_form true = form.Increment
 
@@ -116,7 +116,7 @@ row_spelled at op form.Wide r text lt is t =
     let what = widened_is w.byte (form_of w.byte) t.first w.means in
     rw (only op (Some form.Wide) is, t.parts, w.alone, what.0) (wide_spelled at t.first.0 t.first.1 r t.back (rw (← what.0) w.small) (rw (← what.0) what.1) t.second_is)
 
-rows_spelled : (at : ℕ) (r : Raw) (text : List ℕ) → Rows at r text → Spells at r text
+pub rows_spelled : (at : ℕ) (r : Raw) (text : List ℕ) → Rows at r text → Spells at r text
 rows_spelled at r text t =
     let w = t.first_is in
     let what = with_form_is w.byte (form_of w.byte) t.first w.means in
@@ -180,7 +180,7 @@ wide_row at op increment r back text lt is e t =
     means false = refl
     means true = refl
 
-spelled_rows : (at : ℕ) (r : Raw) (text : List ℕ) → Spells at r text → Rows at r text
+pub spelled_rows : (at : ℕ) (r : Raw) (text : List ℕ) → Spells at r text → Rows at r text
 spelled_rows at (raw.Plain op) text s = row at op form.Plain (raw.Plain op) [] text s.typed s.instruction s.spelled (refl, refl)
 spelled_rows at (raw.Push op value) text s = elim s.instruction [
   | inl h ↦ row at op form.Byte (raw.Push op value) (signed w8 value) text s.typed.0 h.0 (s.spelled ∙ rw h.0 refl) (value, refl, (h.1, refl))

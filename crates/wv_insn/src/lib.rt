@@ -15,8 +15,10 @@ pub use laws::{
     decode_after_encode, encode_after_decode, one_instruction, what_a_first_fault_is,
     what_is_encodable,
 };
+pub use opcode::form_of;
 pub use raw::{Offsets, Raw, RawCase, RawCases};
 pub use reading::decode;
+pub use switch::targets;
 pub use writing::encode;
 
 #[cfg(test)]

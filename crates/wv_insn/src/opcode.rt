@@ -20,9 +20,9 @@ pub(crate) const WIDE: u8 = 0xc4;
 
 pub(crate) const MULTIANEWARRAY: u8 = 0xc5;
 
-/// The form of the operands behind an opcode, where an instruction has it.
+/// The form of the operands behind an opcode, where an instruction has it (JVM Specification 6.5).
 #[tactic(auto, unfolding(wv_base::specs::Instructions::form_of))]
-pub(crate) fn form_of(op: u8) -> Option<Form>
+pub fn form_of(op: u8) -> Option<Form>
     ensures { result ≡ form_of op }
 {
     Some(match op {

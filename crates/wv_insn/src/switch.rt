@@ -9,9 +9,9 @@ pub(crate) fn padding(at: usize) -> usize
     3 - at % 4
 }
 
-/// How many keys there are from `low` to `high`.
+/// How many keys there are from `low` to `high`: none where `low` is above `high`.
 #[tactic(auto, unfolding(crate::specs::Spelling::targets))]
-pub(crate) fn targets(low: i32, high: i32) -> u64
+pub fn targets(low: i32, high: i32) -> u64
     ensures { result ≡ targets low high }
 {
     if low <= high {
