@@ -31,7 +31,7 @@ nothing_left h = let r = reached h in omega (arith, r.size, r.takes.most)
 
 -- ---- sizes
 
--- the least number of frames that can fill so many bytes is near their quotient by a frame's most
+-- one frame more than the quotient by the most bytes of a frame, which is never the most but one
 frames_enough : (m q r : ℕ) → 0 < m → m + 1 ≡ 393217 * q + r → r < 393217 → FramesFill 0 0 0 (q + 1) m
 frames_enough m q r some e lt =
     spelled (record {
