@@ -12,3 +12,4 @@ pub mod Numbers
 pub mod Insns
 pub mod SwitchNumbers
 pub mod InsnReads
+pub mod Rooms
