@@ -13,3 +13,4 @@ pub mod Insns
 pub mod SwitchNumbers
 pub mod InsnReads
 pub mod Rooms
+pub mod ContentParts
