@@ -14,3 +14,4 @@ pub mod SwitchNumbers
 pub mod InsnReads
 pub mod Rooms
 pub mod ContentParts
+pub mod AttributeReads
