@@ -1,7 +1,7 @@
 -- The attributes of a Code attribute: how each is read, and what fits.
 use Rattle.std.proofs.Common.{◌≡◌, ℕ, zero, suc, ◌+◌, ◌-◌, ◌*◌, ◌^◌, ◌<◌, ◌≤◌, Bool, true, false, cond, ltb, List, [], ◌∷◌, ◌++◌, length, take, drop, replicate, Option, Some, None, Result, Ok, Err, codes, refl, sym, ap, subst, ◌∙◌, ◌⊎◌, inl, inr, arith, append_assoc}
 use Rattle.std.specs.List.{flat_map, AllByRecursion}
-use Rattle.std.specs.Str.{bytes_eq}
+use Rattle.std.specs.Prelude.{bytes_eq}
 use Rattle.std.proofs.lemmas.Bool.{cases_Bool, cases_lt, ltb-true, ltb-false, le-ltb, lt-ltb}
 use Rattle.std.proofs.lemmas.List.{length-append, append-nil, take-append-drop, length-take, length-drop, length-replicate, take_at, drop_at, take_all, nil_from_length}
 use Rattle.std.proofs.lemmas.Slice.Eq.{bytes_eq-Decides}
@@ -33,7 +33,7 @@ use Rattle.wv_code.proofs.ContentParts.{Long as LengthText, shorts, longs, Span,
 
 -- ---- bytes that are kept
 
-abbrev KeptText : ℕ → ℕ → RawAttribute → List ℕ → Type 0
+abbrev pub KeptText : ℕ → ℕ → RawAttribute → List ℕ → Type 0
 KeptText name len a text = (a ≡ attributes.Kept (record { name = name; content = text })) × (length text ≡ len) × AreBytes text
 
 abbrev kept : ℕ → List ℕ → RawAttribute
@@ -99,7 +99,7 @@ kept_read name len Q = record { takes = takes; again = again; stops = stops; the
 
 -- ---- the frames of a StackMapTable
 
-abbrev FramesText : ℕ → ℕ → RawAttribute → List ℕ → Type 0
+abbrev pub FramesText : ℕ → ℕ → RawAttribute → List ℕ → Type 0
 FramesText name len a text = (fs : List RawFrame) × (a ≡ attributes.Frames name fs) × (length text ≡ len) × IsLayout fs × (text ≡ table_bytes fs)
 
 no_frames_left : {n : ℕ} → FramesFill 0 0 0 0 n → n ≡ 0

@@ -22,7 +22,7 @@ use Rattle.wv_code.specs.Content.{length_bytes, range_bytes, IsRange}
 use Rattle.wv_code.specs.Number.{number_at}
 use Rattle.wv_code.specs.Reading.{insns_from, code_at, times, range_at}
 use Rattle.wv_code.specs.Fitting.{insn_at}
-use Rattle.wv_code.proofs.Numbers.{AreBytes, are_bytes, below, Digits, digits_of, IsNumber, NumberRoom, numbers}
+use Rattle.wv_code.proofs.Numbers.{AreBytes, are_bytes, below, Digits, digits_of, IsNumber, NumberRoom, Passes, numbers}
 use Rattle.wv_code.proofs.Insns.{Code, Lines, TakenCode, BegunCode, insns_take, insns_again, code_there, BrokenCode, EndedCode, insns_stop}
 use Rattle.wv_code.proofs.InsnReads.{insn_reads}
 
@@ -74,10 +74,10 @@ is_long_text n text s =
     let same : length_bytes n ≡ d.text = be_bytes_4 d.text n d.long (are_one_by_one d.text d.bytes) (sym d.spelled ∙ four_value d.text d.long) in
     subst (λ (t : List ℕ). IsNumber 4 n t) (sym (s.1 ∙ same)) (d.long, d.bytes, d.spelled)
 
-pub shorts : (test : ℕ → ℕ → Bool) → Reads (number_at 2 test) Short (NumberRoom 2 test) (λ n m. test m n ≡ true)
+pub shorts : (test : ℕ → ℕ → Bool) → Reads (number_at 2 test) Short (NumberRoom 2 test) (Passes 2 test)
 shorts test = renamed (IsNumber 2) Short short_is is_short (numbers 2 test)
 
-pub longs : (test : ℕ → ℕ → Bool) → Reads (number_at 4 test) Long (NumberRoom 4 test) (λ n m. test m n ≡ true)
+pub longs : (test : ℕ → ℕ → Bool) → Reads (number_at 4 test) Long (NumberRoom 4 test) (Passes 4 test)
 longs test = renamed (IsNumber 4) Long long_text is_long_text (numbers 4 test)
 
 -- so many bytes, and what fits behind them

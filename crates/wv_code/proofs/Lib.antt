@@ -15,3 +15,4 @@ pub mod InsnReads
 pub mod Rooms
 pub mod ContentParts
 pub mod AttributeReads
+pub mod ContentReads
