@@ -16,3 +16,6 @@ pub mod Rooms
 pub mod ContentParts
 pub mod AttributeReads
 pub mod ContentReads
+pub mod ContentAnswers
+pub mod Times
+pub mod AttributeRooms

@@ -357,3 +357,6 @@ numbers w test = record { takes = takes; again = again; stops = stops; there = t
       sum = omega (arith, s.0);
       some = goes_true (test m) w 0 text (record { more = []; long = omega (arith, s.0); bytes = subst AreBytes (sym (append-nil text)) s.1; passes = ap (test m) (zero_times (256 ^ w) (number_of (text ++ [])) ∙ ap number_of (append-nil text) ∙ s.2) ∙ q.1 });
     }
+
+pub number_short : (w : ℕ) (bytes : List ℕ) → AreBytes bytes → w ≤ length bytes → number_of (take w bytes) < 256 ^ w
+number_short w bytes are long = number_below w (take w bytes) (omega (arith, length-take w bytes, long)) (are_take w bytes are)

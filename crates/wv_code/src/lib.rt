@@ -1,8 +1,10 @@
 //! A method's code, and where its instructions stand (JVM Specification 4.7.3 and 4.9.1).
 #![tactic(auto)]
 
+mod attribute_room;
 mod code_layout;
 mod constants;
+mod content;
 mod entering;
 mod fitting;
 mod formed;
@@ -18,6 +20,7 @@ mod switch_number;
 mod writing;
 
 pub use code_layout::{CodeLayout, Offsets};
+pub use content::read_layout;
 pub use formed::are_formed;
 pub use laws::{one_layout, size_of_what_is_spelled};
 pub use laying::layout;

@@ -1,5 +1,5 @@
 //! Numbers that have to fit the room behind them.
-ghost use Rattle.std.specs.Prelude.{◌≡◌, ◌↔◌, ◌<◌, ◌≤◌, ℕ, Bool, true, length, IfOk};
+ghost use Rattle.std.specs.Prelude.{◌≡◌, ◌↔◌, ◌<◌, ◌≤◌, ◌^◌, ℕ, Bool, true, length, IfOk};
 ghost use Rattle.wv_code.specs.Answers.{Gives};
 ghost use Rattle.wv_code.specs.Number.{number_from};
 
@@ -17,6 +17,7 @@ pub(crate) fn number_at<'a, A: Allows>(
     requires few { width ≤ 4 }
     ensures gives { (test : ℕ → Bool) → ((n : ℕ) → A.allows allowed.now n ↔ (test n ≡ true)) → Gives (λ x. (x.0, x.1.now)) result (number_from test width 0 bytes.now) }
     ensures shorter { IfOk result (λ x. length x.1.now ≤ length bytes.now) }
+    ensures small { IfOk result (λ x. x.0 < 256 ^ width) }
 {
     match read_number(bytes, width, allowed) {
         Ok(number) => Ok((number, &bytes[width..])),

@@ -1,10 +1,10 @@
-use Rattle.std.proofs.Common.{◌≡◌, ℕ, Bool, true, length, ◌-◌, List, take, drop, Ok, Err, refl, sym, ap, subst, ◌∙◌, arith}
+use Rattle.std.proofs.Common.{◌≡◌, ℕ, Bool, true, length, ◌-◌, ◌^◌, ◌<◌, List, take, drop, Ok, Err, refl, sym, ap, subst, ◌∙◌, arith}
 use Rattle.std.proofs.lemmas.List.{length-drop}
 use Rattle.std.proofs.Math.Seq.{take-length}
 use Rattle.wv_code.specs.Number.{number_from}
-use Rattle.wv_code.proofs.Numbers.{are_bytes, number_found, number_stops, numbers}
-use Rattle.wv_code.proofs.Insns.{insns_stop}
-use Rattle.wv_code.proofs.ContentReads.{content_text_read}
+use Rattle.wv_code.proofs.Numbers.{are_bytes, number_found, number_stops, number_short}
+use Rattle.wv_code.proofs.ContentAnswers.{too_few}
+use Rattle.wv_code.proofs.Times.{is_done}
 use Rattle.wv_code.proofs.number.number_at.Goals as goal
 
 pub returns-in-Ok-clause-gives : goal.returns-in-Ok-clause-gives
@@ -16,3 +16,6 @@ returns-in-Ok-clause-gives g c = λ test is.
 
 pub returns-in-Err-clause-gives : goal.returns-in-Err-clause-gives
 returns-in-Err-clause-gives g c = λ test is. number_stops (g.A.Allows.allows c.args.allowed.now) test (λ n. (is n).0) (λ n. (is n).1) c.args.width c.args.bytes.now (are_bytes c.args.bytes.now (λ i. omega (arith, c.type_inv.bytes i))) c.in-Err.place c.in-Err.ensures.fault
+
+pub returns-in-Ok-clause-small : goal.returns-in-Ok-clause-small
+returns-in-Ok-clause-small g c = subst (λ (k : ℕ). k < 256 ^ c.args.width) (sym c.in-Ok.ensures.spelled) (number_short c.args.width c.args.bytes.now (are_bytes c.args.bytes.now (λ i. omega (arith, c.type_inv.bytes i))) c.in-Ok.ensures.within)
