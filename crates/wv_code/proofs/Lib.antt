@@ -10,5 +10,6 @@ pub mod Written
 pub mod Splits
 pub mod Readers
 pub mod Numbers
+pub mod Rooms
 pub mod InsnReads
 pub mod SwitchNumbers

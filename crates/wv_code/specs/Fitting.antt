@@ -9,7 +9,7 @@ use Rattle.wv_base.specs.Instructions.{form_of}
 use Rattle.wv_pool.specs.Reading.{◌>>=◌}
 use Rattle.wv_insn.specs.declared.raw.Raw.{Raw}
 use Rattle.wv_insn.specs.Spelling.{padding, targets}
-use Rattle.wv_insn.specs.Reading.{bytes_at, instruction_at}
+use Rattle.wv_insn.specs.Reading.{bytes_at, signed_at, instruction_at}
 use Rattle.wv_code.specs.declared.switch_number.SwitchPart.{SwitchPart}
 use Rattle.wv_code.specs.declared.switch_number.SwitchPart.TheVariants as parts
 use Rattle.wv_code.specs.Number.{number_at}
@@ -84,7 +84,7 @@ part_at part tail missing bytes = number_at 4 (part_fits part tail) missing byte
 unfoldable pub table_room : ℕ → ℕ → ℕ → List ℕ → Result (Unit {0}) ℕ
 table_room at tail missing bytes = do
   pad ← bytes_at (padding at) bytes
-  other ← bytes_at 4 pad.1
+  other ← signed_at w32 pad.1
   low ← part_at parts.Low tail missing other.1
   high ← part_at (parts.High (cast_signed w32 low.0)) tail missing low.1
   Ok tt
@@ -92,7 +92,7 @@ table_room at tail missing bytes = do
 unfoldable pub lookup_room : ℕ → ℕ → ℕ → List ℕ → Result (Unit {0}) ℕ
 lookup_room at tail missing bytes = do
   pad ← bytes_at (padding at) bytes
-  other ← bytes_at 4 pad.1
+  other ← signed_at w32 pad.1
   count ← part_at parts.Count tail missing other.1
   Ok tt
 
