@@ -2,7 +2,7 @@
 use Rattle.std.proofs.Common.{ℕ, ◌<◌, ◌≤◌}
 use Rattle.wv_insn.specs.Spelling.{Spells}
 use Rattle.wv_code.specs.Fitting.{insn_at}
-use Rattle.wv_code.proofs.Readers.{Reads}
+use Rattle.wv_frames.proofs.Readers.{Reads}
 
 pub insn_reads : (at tail : ℕ) → Reads (insn_at at tail) (Spells at) (λ n. tail < n) (λ _ m. tail ≤ m)
 insn_reads at tail = ?

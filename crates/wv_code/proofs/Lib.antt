@@ -10,6 +10,6 @@ pub mod Written
 pub mod Splits
 pub mod Readers
 pub mod Numbers
-pub mod Rooms
+pub mod RoomReads
 pub mod InsnReads
 pub mod SwitchNumbers

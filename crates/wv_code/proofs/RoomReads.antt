@@ -6,7 +6,7 @@ use Rattle.wv_pool.specs.Reading.{◌>>=◌}
 use Rattle.wv_insn.proofs.Readers.{option_is, Meant}
 use Rattle.wv_insn.proofs.Readers as plain
 use Rattle.wv_code.specs.Fitting.{found_in, byte_in}
-use Rattle.wv_code.proofs.Readers.{IsBytes, Fill, Begun, Broken, Ended, Stopped, Taken, Reads, Then, bind_ok, bind_err, ok_is}
+use Rattle.wv_frames.proofs.Readers.{IsBytes, Fill, Begun, Broken, Ended, Stopped, Taken, Reads, Then, bind_ok, bind_err, ok_is}
 
 -- ---- texts that are all equally long
 
