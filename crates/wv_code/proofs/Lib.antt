@@ -8,8 +8,8 @@ pub mod Sizes
 pub mod Follows
 pub mod Written
 pub mod Splits
-pub mod Readers
 pub mod Numbers
+pub mod Insns
+pub mod SwitchNumbers
 pub mod RoomReads
 pub mod InsnReads
-pub mod SwitchNumbers

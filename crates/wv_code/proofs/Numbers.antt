@@ -5,7 +5,7 @@ use Rattle.std.proofs.lemmas.Bool.{cases_Bool, cases_lt, both_ways}
 use Rattle.std.proofs.lemmas.List.{length-append, length-take, take-append-drop, append-nil}
 use Rattle.std.proofs.Math.Nat.{pow-suc, pow-succ', div-add-mod, mul-le-mul_left, div-lt_iff_lt-mul}
 use Rattle.wv_room.specs.Number.{number_of, BeginsWith, IsFirstFault}
-use Rattle.wv_code.specs.Reading.{some_below, number_from, number_at}
+use Rattle.wv_code.specs.Number.{some_below, number_from, number_at}
 use Rattle.wv_frames.proofs.Readers.{IsBytes, IsBytes-rest, Fill, Begun, Broken, Ended, Stopped, Taken, Reads, ok_is}
 
 abbrev pub AreBytes : List ℕ → Type 0

@@ -1,7 +1,7 @@
 //! Numbers that have to fit the room behind them.
 ghost use Rattle.std.specs.Prelude.{◌≡◌, ◌↔◌, ◌<◌, ◌≤◌, ℕ, Bool, true, length, IfOk};
 ghost use Rattle.wv_code.specs.Answers.{Gives};
-ghost use Rattle.wv_code.specs.Reading.{number_from};
+ghost use Rattle.wv_code.specs.Number.{number_from};
 
 use crate::stop::Stop;
 use wv_room::{Allows, read_number};

@@ -119,22 +119,22 @@ Behind frame_tags.Full = FullText
 abbrev Left : ℕ → ℕ → Type 0
 Left f = Fit (only_frames f)
 
-full_read : (f : ℕ) → Reads (full_behind f) FullText (λ n. FramesFill 2 0 2 f n) (λ _. Left f)
+full_read : (f : ℕ) → Reads (λ missing. full_behind missing f) FullText (λ n. FramesFill 2 0 2 f n) (λ _. Left f)
 unfolding full_behind
 full_read f =
-    then (λ delta bytes. list_at (coming 0 1 f) bytes >>= λ locals. list_at (only_frames f) locals.1 >>= λ stack. Ok (frames.Full delta locals.0 stack.0, stack.1)) (short_before 0 2 f)
-    (λ delta. then (λ locals bytes. list_at (only_frames f) bytes >>= λ stack. Ok (frames.Full delta locals stack.0, stack.1)) (list_read 1 f)
+    then (λ delta missing bytes. list_at missing (coming 0 1 f) bytes >>= λ locals. list_at missing (only_frames f) locals.1 >>= λ stack. Ok (frames.Full delta locals.0 stack.0, stack.1)) (short_before 0 2 f)
+    (λ delta. then (λ locals missing bytes. list_at missing (only_frames f) bytes >>= λ stack. Ok (frames.Full delta locals stack.0, stack.1)) (list_read 1 f)
     (λ locals. seen (Left f) (λ stack. frames.Full delta locals stack) (list_read 0 f)))
 
-behind_read : (f : ℕ) (t : FrameTag) → Reads (frame_behind f t) (Behind t) (TagRoom frame_tag (behind_frame_tag f) t) (λ _. Left f)
+behind_read : (f : ℕ) (t : FrameTag) → Reads (λ missing. frame_behind missing f t) (Behind t) (TagRoom frame_tag (behind_frame_tag f) t) (λ _. Left f)
 behind_read f (frame_tags.Same delta) = done (frames.Same delta) (Left f)
 behind_read f (frame_tags.SameWithOne delta) = seen (Left f) (λ stack. frames.SameWithOne delta stack) (one_read 0 0 f)
 behind_read f frame_tags.SameWithOneExtended =
-    then (λ delta bytes. type_at (only_frames f) bytes >>= λ stack. Ok (frames.SameWithOneExtended delta stack.0, stack.1)) (short_before 1 0 f) (λ delta. seen (Left f) (λ stack. frames.SameWithOneExtended delta stack) (one_read 0 0 f))
+    then (λ delta missing bytes. type_at missing (only_frames f) bytes >>= λ stack. Ok (frames.SameWithOneExtended delta stack.0, stack.1)) (short_before 1 0 f) (λ delta. seen (Left f) (λ stack. frames.SameWithOneExtended delta stack) (one_read 0 0 f))
 behind_read f (frame_tags.Chop k) = seen (Left f) (λ delta. frames.Chop k delta) (short_before 0 0 f)
 behind_read f frame_tags.SameExtended = seen (Left f) (λ delta. frames.SameExtended delta) (short_before 0 0 f)
 behind_read f (frame_tags.Append k) =
-    then (λ delta bytes. types_in k (only_frames f) bytes >>= λ locals. Ok (frames.Append delta locals.0, locals.1)) (short_before k 0 f) (λ delta. seen (Left f) (λ locals. frames.Append delta locals) (types_read k 0 f))
+    then (λ delta missing bytes. types_in missing k (only_frames f) bytes >>= λ locals. Ok (frames.Append delta locals.0, locals.1)) (short_before k 0 f) (λ delta. seen (Left f) (λ locals. frames.Append delta locals) (types_read k 0 f))
 behind_read f frame_tags.Full = full_read f
 
 -- ---- one frame
@@ -232,19 +232,19 @@ frame_back : (f n : ℕ) → TagsFill f n → Left (suc f) n
 frame_back f n p =
     subst (Left (suc f)) (omega (arith, p.sum, ap length p.spelled.alone)) (frame_size f p.more (is_frame_tag p.spelled.byte p.value p.spelled.small p.spelled.means) p.rest)
 
-abbrev frame_steps : ℕ → List ℕ → Result (RawFrame × List ℕ) ℕ
-frame_steps f bytes = tag_at frame_tag (behind_frame_tag f) bytes >>= λ one. frame_behind f one.0 one.1
+abbrev frame_steps : ℕ → ℕ → List ℕ → Result (RawFrame × List ℕ) ℕ
+frame_steps f missing bytes = tag_at missing frame_tag (behind_frame_tag f) bytes >>= λ one. frame_behind missing f one.0 one.1
 
-frame_alike : (f : ℕ) (bytes : List ℕ) → frame_at f bytes ≡ frame_steps f bytes
+frame_alike : (f missing : ℕ) (bytes : List ℕ) → frame_at missing f bytes ≡ frame_steps f missing bytes
 unfolding frame_at
-frame_alike f bytes = refl
+frame_alike f missing bytes = refl
 
-pub frame_read : (f : ℕ) → Reads (frame_at f) FrameText (Left (suc f)) (λ _. Left f)
+pub frame_read : (f : ℕ) → Reads (λ missing. frame_at missing f) FrameText (Left (suc f)) (λ _. Left f)
 frame_read f =
-    alike (frame_steps f) (frame_at f) (frame_alike f)
+    alike (frame_steps f) (λ missing. frame_at missing f) (frame_alike f)
     (resized (TagsFill f) (Left (suc f)) (frame_there f) (frame_back f)
     (renamed Tagged FrameText frame_text frame_from
-    (then (λ one bytes. frame_behind f one bytes) (tag frame_tag (behind_frame_tag f)) (behind_read f))))
+    (then (λ one missing bytes. frame_behind missing f one bytes) (tag frame_tag (behind_frame_tag f)) (behind_read f))))
 
 -- ---- so many frames
 
@@ -268,7 +268,7 @@ frames_from k (one ∷ others) text s = record {
   second_is = (others, refl, (omega (arith, s.0), s.1.1, refl));
 }
 
-frames_none : Reads (frames_in 0) (FramesText 0) (Left 0) (λ _. Left 0)
+frames_none : Reads (λ missing. frames_in missing 0) (FramesText 0) (Left 0) (λ _. Left 0)
 unfolding items_in
 frames_none =
     renamed (λ (all : List RawFrame) text. (all ≡ []) × (text ≡ [])) (FramesText 0)
@@ -280,19 +280,19 @@ frames_none =
     none [] text s = (refl, s.2)
     none (one ∷ others) text s = absurd (omega (arith, s.0))
 
-abbrev frames_steps : ℕ → List ℕ → Result (List RawFrame × List ℕ) ℕ
-frames_steps k bytes = frame_at k bytes >>= λ one. frames_in k one.1 >>= λ others. Ok (one.0 ∷ others.0, others.1)
+abbrev frames_steps : ℕ → ℕ → List ℕ → Result (List RawFrame × List ℕ) ℕ
+frames_steps k missing bytes = frame_at missing k bytes >>= λ one. frames_in missing k one.1 >>= λ others. Ok (one.0 ∷ others.0, others.1)
 
-frames_alike : (k : ℕ) (bytes : List ℕ) → frames_in (suc k) bytes ≡ frames_steps k bytes
+frames_alike : (k missing : ℕ) (bytes : List ℕ) → frames_in missing (suc k) bytes ≡ frames_steps k missing bytes
 unfolding items_in
-frames_alike k bytes = refl
+frames_alike k missing bytes = refl
 
-pub frames_read : (k : ℕ) → Reads (frames_in k) (FramesText k) (Left k) (λ _. Left 0)
+pub frames_read : (k : ℕ) → Reads (λ missing. frames_in missing k) (FramesText k) (Left k) (λ _. Left 0)
 frames_read zero = frames_none
 frames_read (suc k) =
-    alike (frames_steps k) (frames_in (suc k)) (frames_alike k)
+    alike (frames_steps k) (λ missing. frames_in missing (suc k)) (frames_alike k)
     (renamed (Then FrameText (λ one. Seen (λ others. one ∷ others) (FramesText k))) (FramesText (suc k)) (frames_to k) (frames_from k)
-    (then (λ one bytes. frames_in k bytes >>= λ others. Ok (one ∷ others.0, others.1)) (frame_read k) (λ one. seen (Left 0) (λ others. one ∷ others) (frames_read k))))
+    (then (λ one missing bytes. frames_in missing k bytes >>= λ others. Ok (one ∷ others.0, others.1)) (frame_read k) (λ one. seen (Left 0) (λ others. one ∷ others) (frames_read k))))
 
 -- ---- a table
 
@@ -307,7 +307,7 @@ table_to all text t =
 table_from : (all : List RawFrame) (text : List ℕ) → TableText all text → Then Short FramesText all text
 table_from all text s = record { first = length all; front = number_bytes (length all); back = flat_map frame_bytes all; parts = s.1; first_is = (s.0.0, refl); second_is = (refl, s.0.1, refl) }
 
-counted_frames : (k : ℕ) → Reads (frames_in k) (FramesText k) (CountRoom kinds.Frame (only_frames 0) k) (λ _. Left 0)
+counted_frames : (k : ℕ) → Reads (λ missing. frames_in missing k) (FramesText k) (CountRoom kinds.Frame (only_frames 0) k) (λ _. Left 0)
 counted_frames k =
     resized (Left k) (CountRoom kinds.Frame (only_frames 0) k)
     (λ n h. subst (λ (j : ℕ). FramesFill 0 0 0 j n) (omega arith) h)
@@ -317,15 +317,15 @@ counted_frames k =
 abbrev pub TableFill : ℕ → Type 0
 TableFill n = Fill Short (CountRoom kinds.Frame (only_frames 0)) n
 
-abbrev table_steps : List ℕ → Result (List RawFrame × List ℕ) ℕ
-table_steps bytes = count_at kinds.Frame (only_frames 0) bytes >>= λ count. frames_in count.0 count.1
+abbrev table_steps : ℕ → List ℕ → Result (List RawFrame × List ℕ) ℕ
+table_steps missing bytes = count_at missing kinds.Frame (only_frames 0) bytes >>= λ count. frames_in missing count.0 count.1
 
-pub table_alike : (bytes : List ℕ) → table_at bytes ≡ table_steps bytes
+pub table_alike : (missing : ℕ) (bytes : List ℕ) → table_at missing bytes ≡ table_steps missing bytes
 unfolding table_at
-table_alike bytes = refl
+table_alike missing bytes = refl
 
 pub table_read : Reads table_at TableText TableFill (λ _. Left 0)
 table_read =
     alike table_steps table_at table_alike
     (renamed (Then Short FramesText) TableText table_to table_from
-    (then (λ count bytes. frames_in count bytes) (count kinds.Frame (only_frames 0)) counted_frames))
+    (then (λ count missing bytes. frames_in missing count bytes) (count kinds.Frame (only_frames 0)) counted_frames))

@@ -88,10 +88,10 @@ more_two : (t l f n : ℕ) → Room2 (λ m. FramesFill 0 t l f m) n → FramesFi
 more_two t l f n r = subst (λ (k : ℕ). FramesFill 2 t l f k) (sym r.sum) (shift_up 2 r.rest)
 
 -- a number in front of what is to come
-pub short_before : (t l f : ℕ) → Reads (fixed 2 number) Short (λ n. FramesFill 2 t l f n) (λ _ n. FramesFill 0 t l f n)
+pub short_before : (t l f : ℕ) → Reads (λ missing. fixed 2 number) Short (λ n. FramesFill 2 t l f n) (λ _ n. FramesFill 0 t l f n)
 short_before t l f = resized (Room2 (λ m. FramesFill 0 t l f m)) (λ n. FramesFill 2 t l f n) (two_more t l f) (more_two t l f) (short (λ m. FramesFill 0 t l f m))
 
-operand : (t l f : ℕ) (one : TypeTag) → Reads (type_behind one) (Operand one) (TagRoom type_tag (behind_type_tag (coming t l f)) one) (λ _. Fit (coming t l f))
+operand : (t l f : ℕ) (one : TypeTag) → Reads (λ missing. type_behind one) (Operand one) (TagRoom type_tag (behind_type_tag (coming t l f)) one) (λ _. Fit (coming t l f))
 operand t l f (type_tags.Plain raw) = done raw (Fit (coming t l f))
 operand t l f type_tags.Object = seen (Fit (coming t l f)) (λ n. types.Object n) (short_before t l f)
 operand t l f type_tags.Uninitialized = seen (Fit (coming t l f)) (λ n. types.Uninitialized n) (short_before t l f)
@@ -151,19 +151,19 @@ type_size t l f m type_tags.Uninitialized h = numbered (shift_up 1 h)
 type_back : (t l f n : ℕ) → TagsFill t l f n → FramesFill 0 (suc t) l f n
 type_back t l f n p = subst (λ (k : ℕ). FramesFill 0 (suc t) l f k) (omega (arith, p.sum, ap length p.spelled.alone)) (type_size t l f p.more p.value p.rest)
 
-abbrev type_steps : (t l f : ℕ) → List ℕ → Result (RawType × List ℕ) ℕ
-type_steps t l f bytes = tag_at type_tag (behind_type_tag (coming t l f)) bytes >>= λ one. type_behind one.0 one.1
+abbrev type_steps : (t l f missing : ℕ) → List ℕ → Result (RawType × List ℕ) ℕ
+type_steps t l f missing bytes = tag_at missing type_tag (behind_type_tag (coming t l f)) bytes >>= λ one. type_behind one.0 one.1
 
-type_alike : (t l f : ℕ) (bytes : List ℕ) → type_at (coming t l f) bytes ≡ type_steps t l f bytes
+type_alike : (t l f missing : ℕ) (bytes : List ℕ) → type_at missing (coming t l f) bytes ≡ type_steps t l f missing bytes
 unfolding type_at
-type_alike t l f bytes = refl
+type_alike t l f missing bytes = refl
 
-pub one_read : (t l f : ℕ) → Reads (type_at (coming t l f)) TypeText (Fit (coming (suc t) l f)) (λ _. Fit (coming t l f))
+pub one_read : (t l f : ℕ) → Reads (λ missing. type_at missing (coming t l f)) TypeText (Fit (coming (suc t) l f)) (λ _. Fit (coming t l f))
 one_read t l f =
-    alike (type_steps t l f) (type_at (coming t l f)) (type_alike t l f)
+    alike (type_steps t l f) (λ missing. type_at missing (coming t l f)) (type_alike t l f)
     (resized (TagsFill t l f) (Fit (coming (suc t) l f)) (type_there t l f) (type_back t l f)
     (renamed Tagged TypeText type_text type_from
-    (then (λ one bytes. type_behind one bytes) (tag type_tag (behind_type_tag (coming t l f))) (operand t l f))))
+    (then (λ one missing bytes. type_behind one bytes) (tag type_tag (behind_type_tag (coming t l f))) (operand t l f))))
 
 -- ---- so many types
 
@@ -187,7 +187,7 @@ types_from k (one ∷ others) text s = record {
   second_is = (others, refl, (omega (arith, s.0), s.1.1, refl));
 }
 
-types_none : (l f : ℕ) → Reads (types_in 0 (coming 0 l f)) (TypesText 0) (Fit (coming 0 l f)) (λ _. Fit (coming 0 l f))
+types_none : (l f : ℕ) → Reads (λ missing. types_in missing 0 (coming 0 l f)) (TypesText 0) (Fit (coming 0 l f)) (λ _. Fit (coming 0 l f))
 unfolding items_in
 types_none l f =
     renamed (λ (all : List RawType) text. (all ≡ []) × (text ≡ [])) (TypesText 0)
@@ -199,19 +199,19 @@ types_none l f =
     none [] text s = (refl, s.2)
     none (one ∷ others) text s = absurd (omega (arith, s.0))
 
-abbrev types_steps : (k l f : ℕ) → List ℕ → Result (List RawType × List ℕ) ℕ
-types_steps k l f bytes = type_at (coming k l f) bytes >>= λ one. types_in k (coming 0 l f) one.1 >>= λ others. Ok (one.0 ∷ others.0, others.1)
+abbrev types_steps : (k l f missing : ℕ) → List ℕ → Result (List RawType × List ℕ) ℕ
+types_steps k l f missing bytes = type_at missing (coming k l f) bytes >>= λ one. types_in missing k (coming 0 l f) one.1 >>= λ others. Ok (one.0 ∷ others.0, others.1)
 
-types_alike : (k l f : ℕ) (bytes : List ℕ) → types_in (suc k) (coming 0 l f) bytes ≡ types_steps k l f bytes
+types_alike : (k l f missing : ℕ) (bytes : List ℕ) → types_in missing (suc k) (coming 0 l f) bytes ≡ types_steps k l f missing bytes
 unfolding items_in
-types_alike k l f bytes = refl
+types_alike k l f missing bytes = refl
 
-pub types_read : (k l f : ℕ) → Reads (types_in k (coming 0 l f)) (TypesText k) (Fit (coming k l f)) (λ _. Fit (coming 0 l f))
+pub types_read : (k l f : ℕ) → Reads (λ missing. types_in missing k (coming 0 l f)) (TypesText k) (Fit (coming k l f)) (λ _. Fit (coming 0 l f))
 types_read zero l f = types_none l f
 types_read (suc k) l f =
-    alike (types_steps k l f) (types_in (suc k) (coming 0 l f)) (types_alike k l f)
+    alike (types_steps k l f) (λ missing. types_in missing (suc k) (coming 0 l f)) (types_alike k l f)
     (renamed (Then TypeText (λ one. Seen (λ others. one ∷ others) (TypesText k))) (TypesText (suc k)) (types_to k) (types_from k)
-    (then (λ one bytes. types_in k (coming 0 l f) bytes >>= λ others. Ok (one ∷ others.0, others.1)) (one_read k l f) (λ one. seen (Fit (coming 0 l f)) (λ others. one ∷ others) (types_read k l f))))
+    (then (λ one missing bytes. types_in missing k (coming 0 l f) bytes >>= λ others. Ok (one ∷ others.0, others.1)) (one_read k l f) (λ one. seen (Fit (coming 0 l f)) (λ others. one ∷ others) (types_read k l f))))
 
 -- ---- a list
 
@@ -241,23 +241,23 @@ list_back l f n p =
     let all : FramesFill 2 (p.value + 0) l f (2 + p.more) = shift_up 2 (subst (λ (k : ℕ). FramesFill 0 k l f p.more) (omega arith) p.rest) in
     subst (λ (k : ℕ). FramesFill 0 0 (suc l) f k) (omega (arith, p.sum, short_len p.value p.text p.spelled)) (list p.value few all)
 
-counted_types : (k l f : ℕ) → Reads (types_in k (coming 0 l f)) (TypesText k) (CountRoom kinds.Type (coming 0 l f) k) (λ _. Fit (coming 0 l f))
+counted_types : (k l f : ℕ) → Reads (λ missing. types_in missing k (coming 0 l f)) (TypesText k) (CountRoom kinds.Type (coming 0 l f) k) (λ _. Fit (coming 0 l f))
 counted_types k l f =
     resized (Fit (coming k l f)) (CountRoom kinds.Type (coming 0 l f) k)
     (λ n h. subst (λ (j : ℕ). FramesFill 0 j l f n) (omega arith) h)
     (λ n h. subst (λ (j : ℕ). FramesFill 0 j l f n) (omega arith) h)
     (types_read k l f)
 
-abbrev list_steps : (l f : ℕ) → List ℕ → Result (List RawType × List ℕ) ℕ
-list_steps l f bytes = count_at kinds.Type (coming 0 l f) bytes >>= λ count. types_in count.0 (coming 0 l f) count.1
+abbrev list_steps : (l f missing : ℕ) → List ℕ → Result (List RawType × List ℕ) ℕ
+list_steps l f missing bytes = count_at missing kinds.Type (coming 0 l f) bytes >>= λ count. types_in missing count.0 (coming 0 l f) count.1
 
-list_alike : (l f : ℕ) (bytes : List ℕ) → list_at (coming 0 l f) bytes ≡ list_steps l f bytes
+list_alike : (l f missing : ℕ) (bytes : List ℕ) → list_at missing (coming 0 l f) bytes ≡ list_steps l f missing bytes
 unfolding list_at
-list_alike l f bytes = refl
+list_alike l f missing bytes = refl
 
-pub list_read : (l f : ℕ) → Reads (list_at (coming 0 l f)) ListText (Fit (coming 0 (suc l) f)) (λ _. Fit (coming 0 l f))
+pub list_read : (l f : ℕ) → Reads (λ missing. list_at missing (coming 0 l f)) ListText (Fit (coming 0 (suc l) f)) (λ _. Fit (coming 0 l f))
 list_read l f =
-    alike (list_steps l f) (list_at (coming 0 l f)) (list_alike l f)
+    alike (list_steps l f) (λ missing. list_at missing (coming 0 l f)) (list_alike l f)
     (resized (CountFill l f) (Fit (coming 0 (suc l) f)) (list_there l f) (list_back l f)
     (renamed (Then Short TypesText) ListText list_to list_from
-    (then (λ count bytes. types_in count (coming 0 l f) bytes) (count kinds.Type (coming 0 l f)) (λ k. counted_types k l f))))
+    (then (λ count missing bytes. types_in missing count (coming 0 l f) bytes) (count kinds.Type (coming 0 l f)) (λ k. counted_types k l f))))

@@ -26,11 +26,11 @@ pub record IsReferenceFault (pool : List PoolEntry) (first : Frame) (bytes : Lis
   pub spelled : bytes ≡ table_bytes raw
   pub breaks : FirstBreaks pool first raw at
 
--- the cause of a fault of the layout alone
-abbrev pub LayoutBreaks : List ℕ → ClassFault → Type 0
-LayoutBreaks bytes faults.Memory = Unit {0}
-LayoutBreaks bytes (faults.Layout at) = IsLayoutFault bytes at
-LayoutBreaks bytes (faults.Reference at) = ⊥
+-- the cause of a fault of the layout alone, where so many bytes are missing
+abbrev pub LayoutBreaks : ℕ → List ℕ → ClassFault → Type 0
+LayoutBreaks missing bytes faults.Memory = Unit {0}
+LayoutBreaks missing bytes (faults.Layout at) = IsLayoutFault missing bytes at
+LayoutBreaks missing bytes (faults.Reference at) = ⊥
 
 -- the cause of a fault of a type whose number stands at the place
 abbrev pub TypeBreaks : List PoolEntry → RawType → ℕ → ClassFault → Type 0
@@ -59,5 +59,5 @@ ReferencesBreak pool first raw (faults.Reference at) = FirstBreaks pool first ra
 -- the cause of a fault
 abbrev pub FramesBreak : List PoolEntry → Frame → List ℕ → ClassFault → Type 0
 FramesBreak pool first bytes faults.Memory = Unit {0}
-FramesBreak pool first bytes (faults.Layout at) = IsLayoutFault bytes at
+FramesBreak pool first bytes (faults.Layout at) = IsLayoutFault 0 bytes at
 FramesBreak pool first bytes (faults.Reference at) = IsReferenceFault pool first bytes at

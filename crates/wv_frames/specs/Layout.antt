@@ -11,9 +11,11 @@ pub record BeginsTable (size : ℕ) (front : List ℕ) : Type 0 where
   pub bytes : front ++ more ≡ table_bytes frames
   pub sized : length (table_bytes frames) ≡ size
 
--- The bytes are no table, and this is where that shows: some table of their size begins with those before the place, if there are
--- any, and none with one byte more.
-pub record IsLayoutFault (bytes : List ℕ) (at : ℕ) : Type 0 where
+-- The bytes begin the content of an attribute that has so many bytes more, which are missing; and this is where that content first
+-- fails to be a table of its size: some table of the size begins with the bytes before the place, if there are any, and none with one
+-- byte more. Where the bytes end, others are missing, or no table of the size begins with them.
+pub record IsLayoutFault (missing : ℕ) (bytes : List ℕ) (at : ℕ) : Type 0 where
   pub within : at ≤ length bytes
-  pub begun : 0 < at → BeginsTable (length bytes) (take at bytes)
-  pub none : BeginsTable (length bytes) (take (at + 1) bytes) → ⊥
+  pub begun : 0 < at → BeginsTable (length bytes + missing) (take at bytes)
+  pub none : at < length bytes → BeginsTable (length bytes + missing) (take (at + 1) bytes) → ⊥
+  pub ended : at ≡ length bytes → BeginsTable (length bytes + missing) bytes → 0 < missing

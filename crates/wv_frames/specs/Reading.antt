@@ -1,5 +1,6 @@
--- Reading frames that fill the bytes exactly, from left to right (JVM Specification 4.7.4). A fault is the number of bytes that are
--- left from it on. That this is the reading of the frames' spelling and of no other bytes, the clauses of `read_layout` say.
+-- Reading frames that fill the bytes exactly, from left to right (JVM Specification 4.7.4). So many bytes as the first number says are
+-- missing at the end, and are to be filled too. A fault is the number of bytes that are left from it on, none where they end before the
+-- item does. That this is the reading of the frames' spelling and of no other bytes, the clauses of `read_layout` say.
 use Rattle.std.specs.Prelude.{◌≡◌, ℕ, zero, suc, ◌+◌, ◌-◌, ◌*◌, ◌%◌, Bool, true, false, ◌==◌, ◌&&◌, nat_lt, nat_le, if◌then◌else◌, List, [], ◌∷◌, length, Option, Some, None, Result, Ok, Err}
 use Rattle.wv_room.specs.declared.frames.Frames.{Frames}
 use Rattle.wv_room.specs.declared.frame_count.FrameKind.{FrameKind}
@@ -40,13 +41,13 @@ abbrev pub only_frames : ℕ → Frames
 only_frames left = record { bytes = 0; types = 0; lists = 0; frames = left }
 
 -- a tag with a meaning behind which what is to come fits
-abbrev pub tag_found : {A : Type 0} → (A → Frames) → List ℕ → Option A → Result (A × List ℕ) ℕ
-tag_found to_come rest None = Err (suc (length rest))
-tag_found to_come rest (Some tag) = if fits_in (to_come tag) (length rest) then Ok (tag, rest) else Err (suc (length rest))
+abbrev pub tag_found : {A : Type 0} → ℕ → (A → Frames) → List ℕ → Option A → Result (A × List ℕ) ℕ
+tag_found missing to_come rest None = Err (suc (length rest))
+tag_found missing to_come rest (Some tag) = if fits_in (to_come tag) (length rest + missing) then Ok (tag, rest) else Err (suc (length rest))
 
-unfoldable pub tag_at : {A : Type 0} → (ℕ → Option A) → (A → Frames) → List ℕ → Result (A × List ℕ) ℕ
-tag_at meaning to_come [] = Err 0
-tag_at meaning to_come (byte ∷ rest) = tag_found to_come rest (meaning byte)
+unfoldable pub tag_at : {A : Type 0} → ℕ → (ℕ → Option A) → (A → Frames) → List ℕ → Result (A × List ℕ) ℕ
+tag_at missing meaning to_come [] = Err 0
+tag_at missing meaning to_come (byte ∷ rest) = tag_found missing to_come rest (meaning byte)
 
 -- some number below passes the test
 unfoldable pub some_below : ℕ → (ℕ → Bool) → Bool
@@ -57,13 +58,22 @@ some_below (suc n) test = if test n then true else some_below n test
 abbrev pub count_fits : FrameKind → Frames → ℕ → ℕ → Bool
 count_fits kind besides room n = fits_in (frames_with kind n besides) room
 
--- a count of items that fit; its first byte begins one
-unfoldable pub count_at : FrameKind → Frames → List ℕ → Result (ℕ × List ℕ) ℕ
-count_at kind besides [] = Err 0
-count_at kind besides (high ∷ []) = Err 1
-count_at kind besides (high ∷ low ∷ rest) =
-    if some_below 256 (λ k. count_fits kind besides (length rest) (high * 256 + k))
-    then (if count_fits kind besides (length rest) (high * 256 + low) then Ok (high * 256 + low, rest) else Err (suc (length rest)))
+-- whether the byte begins a count of items that fit
+abbrev pub begins_count : FrameKind → Frames → ℕ → ℕ → Bool
+begins_count kind besides room high = some_below 256 (λ k. count_fits kind besides room (high * 256 + k))
+
+-- where a count fails of which the second byte is missing
+abbrev pub half_count : ℕ → FrameKind → Frames → ℕ → Result (ℕ × List ℕ) ℕ
+half_count zero kind besides high = Err 1
+half_count (suc missing) kind besides high = if begins_count kind besides missing high then Err 0 else Err 1
+
+-- a count of items that fit, whose first byte begins such a one
+unfoldable pub count_at : ℕ → FrameKind → Frames → List ℕ → Result (ℕ × List ℕ) ℕ
+count_at missing kind besides [] = Err 0
+count_at missing kind besides (high ∷ []) = half_count missing kind besides high
+count_at missing kind besides (high ∷ low ∷ rest) =
+    if begins_count kind besides (length rest + missing) high
+    then (if count_fits kind besides (length rest + missing) (high * 256 + low) then Ok (high * 256 + low, rest) else Err (suc (length rest)))
     else Err (suc (suc (length rest)))
 
 -- the tag of a type
@@ -96,9 +106,9 @@ type_behind type_tags.Uninitialized bytes = do
   Ok (types.Uninitialized at.0, at.1)
 
 -- a type, behind which so much is to come
-unfoldable pub type_at : Frames → List ℕ → Result (RawType × List ℕ) ℕ
-type_at behind bytes = do
-  tag ← tag_at type_tag (behind_type_tag behind) bytes
+unfoldable pub type_at : ℕ → Frames → List ℕ → Result (RawType × List ℕ) ℕ
+type_at missing behind bytes = do
+  tag ← tag_at missing type_tag (behind_type_tag behind) bytes
   type_behind tag.0 tag.1
 
 -- so many items, each read by how many more are to come
@@ -110,17 +120,17 @@ items_in one (suc n) bytes = do
   Ok (item.0 ∷ others.0, others.1)
 
 -- so many types, behind which this is to come
-abbrev pub one_type : Frames → ℕ → List ℕ → Result (RawType × List ℕ) ℕ
-one_type behind left bytes = type_at (record behind { types = left }) bytes
+abbrev pub one_type : ℕ → Frames → ℕ → List ℕ → Result (RawType × List ℕ) ℕ
+one_type missing behind left bytes = type_at missing (record behind { types = left }) bytes
 
-abbrev pub types_in : ℕ → Frames → List ℕ → Result (List RawType × List ℕ) ℕ
-types_in count behind bytes = items_in (one_type behind) count bytes
+abbrev pub types_in : ℕ → ℕ → Frames → List ℕ → Result (List RawType × List ℕ) ℕ
+types_in missing count behind bytes = items_in (one_type missing behind) count bytes
 
 -- a list of types with its count
-unfoldable pub list_at : Frames → List ℕ → Result (List RawType × List ℕ) ℕ
-list_at behind bytes = do
-  count ← count_at kinds.Type behind bytes
-  types_in count.0 behind count.1
+unfoldable pub list_at : ℕ → Frames → List ℕ → Result (List RawType × List ℕ) ℕ
+list_at missing behind bytes = do
+  count ← count_at missing kinds.Type behind bytes
+  types_in missing count.0 behind count.1
 
 -- the tag of a frame
 unfoldable pub frame_tag : ℕ → Option FrameTag
@@ -146,46 +156,46 @@ behind_frame_tag left (frame_tags.Append count) = record { bytes = 2; types = co
 behind_frame_tag left frame_tags.Full = record { bytes = 2; types = 0; lists = 2; frames = left }
 
 -- what stands behind a frame's tag
-unfoldable pub full_behind : ℕ → List ℕ → Result (RawFrame × List ℕ) ℕ
-full_behind left bytes = do
+unfoldable pub full_behind : ℕ → ℕ → List ℕ → Result (RawFrame × List ℕ) ℕ
+full_behind missing left bytes = do
   delta ← fixed 2 number bytes
-  locals ← list_at (record { bytes = 0; types = 0; lists = 1; frames = left }) delta.1
-  stack ← list_at (only_frames left) locals.1
+  locals ← list_at missing (record { bytes = 0; types = 0; lists = 1; frames = left }) delta.1
+  stack ← list_at missing (only_frames left) locals.1
   Ok (frames.Full delta.0 locals.0 stack.0, stack.1)
 
-abbrev pub frame_behind : ℕ → FrameTag → List ℕ → Result (RawFrame × List ℕ) ℕ
-frame_behind left (frame_tags.Same delta) bytes = Ok (frames.Same delta, bytes)
-frame_behind left (frame_tags.SameWithOne delta) bytes = do
-  stack ← type_at (only_frames left) bytes
+abbrev pub frame_behind : ℕ → ℕ → FrameTag → List ℕ → Result (RawFrame × List ℕ) ℕ
+frame_behind missing left (frame_tags.Same delta) bytes = Ok (frames.Same delta, bytes)
+frame_behind missing left (frame_tags.SameWithOne delta) bytes = do
+  stack ← type_at missing (only_frames left) bytes
   Ok (frames.SameWithOne delta stack.0, stack.1)
-frame_behind left frame_tags.SameWithOneExtended bytes = do
+frame_behind missing left frame_tags.SameWithOneExtended bytes = do
   delta ← fixed 2 number bytes
-  stack ← type_at (only_frames left) delta.1
+  stack ← type_at missing (only_frames left) delta.1
   Ok (frames.SameWithOneExtended delta.0 stack.0, stack.1)
-frame_behind left (frame_tags.Chop count) bytes = do
+frame_behind missing left (frame_tags.Chop count) bytes = do
   delta ← fixed 2 number bytes
   Ok (frames.Chop count delta.0, delta.1)
-frame_behind left frame_tags.SameExtended bytes = do
+frame_behind missing left frame_tags.SameExtended bytes = do
   delta ← fixed 2 number bytes
   Ok (frames.SameExtended delta.0, delta.1)
-frame_behind left (frame_tags.Append count) bytes = do
+frame_behind missing left (frame_tags.Append count) bytes = do
   delta ← fixed 2 number bytes
-  locals ← types_in count (only_frames left) delta.1
+  locals ← types_in missing count (only_frames left) delta.1
   Ok (frames.Append delta.0 locals.0, locals.1)
-frame_behind left frame_tags.Full bytes = full_behind left bytes
+frame_behind missing left frame_tags.Full bytes = full_behind missing left bytes
 
 -- a frame, behind which there are so many more
-unfoldable pub frame_at : ℕ → List ℕ → Result (RawFrame × List ℕ) ℕ
-frame_at left bytes = do
-  tag ← tag_at frame_tag (behind_frame_tag left) bytes
-  frame_behind left tag.0 tag.1
+unfoldable pub frame_at : ℕ → ℕ → List ℕ → Result (RawFrame × List ℕ) ℕ
+frame_at missing left bytes = do
+  tag ← tag_at missing frame_tag (behind_frame_tag left) bytes
+  frame_behind missing left tag.0 tag.1
 
 -- so many frames
-abbrev pub frames_in : ℕ → List ℕ → Result (List RawFrame × List ℕ) ℕ
-frames_in count bytes = items_in frame_at count bytes
+abbrev pub frames_in : ℕ → ℕ → List ℕ → Result (List RawFrame × List ℕ) ℕ
+frames_in missing count bytes = items_in (frame_at missing) count bytes
 
 -- the count and the frames
-unfoldable pub table_at : List ℕ → Result (List RawFrame × List ℕ) ℕ
-table_at bytes = do
-  count ← count_at kinds.Frame (only_frames 0) bytes
-  frames_in count.0 count.1
+unfoldable pub table_at : ℕ → List ℕ → Result (List RawFrame × List ℕ) ℕ
+table_at missing bytes = do
+  count ← count_at missing kinds.Frame (only_frames 0) bytes
+  frames_in missing count.0 count.1

@@ -1,5 +1,5 @@
 //! The layout of a StackMapTable: its count and its frames, whatever their numbers name.
-ghost use Rattle.std.specs.Prelude.{◌≡◌, ◌^◌, ◌<◌, ◌≤◌, length, IfOk};
+ghost use Rattle.std.specs.Prelude.{◌≡◌, ◌+◌, ◌^◌, ◌<◌, ◌≤◌, length, IfOk};
 ghost use Rattle.wv_frames.specs.Reading.{Gives, tag_at, type_tag, frame_tag, behind_type_tag, behind_frame_tag, only_frames, type_behind, type_at, types_in, list_at, full_behind, frame_behind, frame_at, frames_in, table_at};
 
 use crate::raw::{RawFrame, RawType, RawTypes};
@@ -23,9 +23,9 @@ fn only_frames(left: u16) -> Frames
 }
 
 #[tactic(auto, unfolding(crate::specs::Reading::tag_at))]
-fn type_tag_at(behind: Frames, bytes: &[u8]) -> Result<(TypeTag, &[u8]), Stop>
-    requires { length bytes.now < 2 ^ 32 }
-    ensures gives { Gives (λ x. (x.0, x.1.now)) result (tag_at type_tag (behind_type_tag behind) bytes.now) }
+fn type_tag_at(behind: Frames, bytes: &[u8], missing: u32) -> Result<(TypeTag, &[u8]), Stop>
+    requires { length bytes.now + missing < 2 ^ 32 }
+    ensures gives { Gives (λ x. (x.0, x.1.now)) result (tag_at missing type_tag (behind_type_tag behind) bytes.now) }
     ensures shorter { IfOk result (λ x. length x.1.now ≤ length bytes.now) }
 {
     let [byte, rest @ ..] = bytes else {
@@ -34,7 +34,7 @@ fn type_tag_at(behind: Frames, bytes: &[u8]) -> Result<(TypeTag, &[u8]), Stop>
     let Some(tag) = type_tag(*byte) else {
         return Err(Stop::Left(bytes.len()));
     };
-    if !fits_in(behind_type_tag(behind, tag), rest.len()) {
+    if !fits_in(behind_type_tag(behind, tag), rest.len() + missing as usize) {
         return Err(Stop::Left(bytes.len()));
     }
     Ok((tag, rest))
@@ -59,12 +59,12 @@ fn type_behind(tag: TypeTag, bytes: &[u8]) -> Result<(RawType, &[u8]), Stop>
 
 /// A type, behind which so much is to come.
 #[tactic(auto, unfolding(crate::specs::Reading::type_at))]
-fn type_at(behind: Frames, bytes: &[u8]) -> Result<(RawType, &[u8]), Stop>
-    requires { length bytes.now < 2 ^ 32 }
-    ensures gives { Gives (λ x. (x.0, x.1.now)) result (type_at behind bytes.now) }
+fn type_at(behind: Frames, bytes: &[u8], missing: u32) -> Result<(RawType, &[u8]), Stop>
+    requires { length bytes.now + missing < 2 ^ 32 }
+    ensures gives { Gives (λ x. (x.0, x.1.now)) result (type_at missing behind bytes.now) }
     ensures shorter { IfOk result (λ x. length x.1.now ≤ length bytes.now) }
 {
-    let (tag, rest) = type_tag_at(behind, bytes)?;
+    let (tag, rest) = type_tag_at(behind, bytes, missing)?;
     type_behind(tag, rest)
 }
 
@@ -74,9 +74,10 @@ fn types_in(
     count: u16,
     behind: Frames,
     bytes: &[u8],
+    missing: u32,
 ) -> Result<(RawTypes, &[u8]), Stop>
-    requires { length bytes.now < 2 ^ 32 }
-    ensures gives { Gives (λ x. (x.0, x.1.now)) result (types_in count behind bytes.now) }
+    requires { length bytes.now + missing < 2 ^ 32 }
+    ensures gives { Gives (λ x. (x.0, x.1.now)) result (types_in missing count behind bytes.now) }
     ensures shorter { IfOk result (λ x. length x.1.now ≤ length bytes.now) }
 {
     let mut types = Items::new(alloc);
@@ -84,7 +85,7 @@ fn types_in(
     for place in 0..count {
         let mut to_come = behind;
         to_come.types = u32::from(count - place - 1);
-        let (one, after) = type_at(to_come, rest)?;
+        let (one, after) = type_at(to_come, rest, missing)?;
         types.push(one)?;
         rest = after;
     }
@@ -93,19 +94,24 @@ fn types_in(
 
 /// A list of types with its count.
 #[tactic(auto, unfolding(crate::specs::Reading::list_at))]
-fn list_at(alloc: Global, behind: Frames, bytes: &[u8]) -> Result<(RawTypes, &[u8]), Stop>
-    requires { length bytes.now < 2 ^ 32 }
-    ensures gives { Gives (λ x. (x.0, x.1.now)) result (list_at behind bytes.now) }
+fn list_at(
+    alloc: Global,
+    behind: Frames,
+    bytes: &[u8],
+    missing: u32,
+) -> Result<(RawTypes, &[u8]), Stop>
+    requires { length bytes.now + missing < 2 ^ 32 }
+    ensures gives { Gives (λ x. (x.0, x.1.now)) result (list_at missing behind bytes.now) }
     ensures shorter { IfOk result (λ x. length x.1.now ≤ length bytes.now) }
 {
-    let (count, rest) = count_at(FrameKind::Type, behind, bytes)?;
-    types_in(alloc, count, behind, rest)
+    let (count, rest) = count_at(FrameKind::Type, behind, bytes, missing)?;
+    types_in(alloc, count, behind, rest, missing)
 }
 
 #[tactic(auto, unfolding(crate::specs::Reading::tag_at))]
-fn frame_tag_at(left: u16, bytes: &[u8]) -> Result<(FrameTag, &[u8]), Stop>
-    requires { length bytes.now < 2 ^ 32 }
-    ensures gives { Gives (λ x. (x.0, x.1.now)) result (tag_at frame_tag (behind_frame_tag left) bytes.now) }
+fn frame_tag_at(left: u16, bytes: &[u8], missing: u32) -> Result<(FrameTag, &[u8]), Stop>
+    requires { length bytes.now + missing < 2 ^ 32 }
+    ensures gives { Gives (λ x. (x.0, x.1.now)) result (tag_at missing frame_tag (behind_frame_tag left) bytes.now) }
     ensures shorter { IfOk result (λ x. length x.1.now ≤ length bytes.now) }
 {
     let [byte, rest @ ..] = bytes else {
@@ -114,7 +120,7 @@ fn frame_tag_at(left: u16, bytes: &[u8]) -> Result<(FrameTag, &[u8]), Stop>
     let Some(tag) = frame_tag(*byte) else {
         return Err(Stop::Left(bytes.len()));
     };
-    if !fits_in(behind_frame_tag(left, tag), rest.len()) {
+    if !fits_in(behind_frame_tag(left, tag), rest.len() + missing as usize) {
         return Err(Stop::Left(bytes.len()));
     }
     Ok((tag, rest))
@@ -122,16 +128,21 @@ fn frame_tag_at(left: u16, bytes: &[u8]) -> Result<(FrameTag, &[u8]), Stop>
 
 /// A full frame behind its tag.
 #[tactic(auto, unfolding(crate::specs::Reading::full_behind))]
-fn full_behind(alloc: Global, left: u16, bytes: &[u8]) -> Result<(RawFrame, &[u8]), Stop>
-    requires { length bytes.now < 2 ^ 32 }
-    ensures gives { Gives (λ x. (x.0, x.1.now)) result (full_behind left bytes.now) }
+fn full_behind(
+    alloc: Global,
+    left: u16,
+    bytes: &[u8],
+    missing: u32,
+) -> Result<(RawFrame, &[u8]), Stop>
+    requires { length bytes.now + missing < 2 ^ 32 }
+    ensures gives { Gives (λ x. (x.0, x.1.now)) result (full_behind missing left bytes.now) }
     ensures shorter { IfOk result (λ x. length x.1.now ≤ length bytes.now) }
 {
     let (delta, rest) = number_at(bytes)?;
     let mut to_come = only_frames(left);
     to_come.lists = 1;
-    let (locals, rest) = list_at(alloc, to_come, rest)?;
-    let (stack, rest) = list_at(alloc, only_frames(left), rest)?;
+    let (locals, rest) = list_at(alloc, to_come, rest, missing)?;
+    let (stack, rest) = list_at(alloc, only_frames(left), rest, missing)?;
     Ok((
         RawFrame::Full {
             delta,
@@ -148,20 +159,21 @@ fn frame_behind(
     left: u16,
     tag: FrameTag,
     bytes: &[u8],
+    missing: u32,
 ) -> Result<(RawFrame, &[u8]), Stop>
-    requires { length bytes.now < 2 ^ 32 }
-    ensures gives { Gives (λ x. (x.0, x.1.now)) result (frame_behind left tag bytes.now) }
+    requires { length bytes.now + missing < 2 ^ 32 }
+    ensures gives { Gives (λ x. (x.0, x.1.now)) result (frame_behind missing left tag bytes.now) }
     ensures shorter { IfOk result (λ x. length x.1.now ≤ length bytes.now) }
 {
     match tag {
         FrameTag::Same { delta } => Ok((RawFrame::Same { delta }, bytes)),
         FrameTag::SameWithOne { delta } => {
-            let (stack, rest) = type_at(only_frames(left), bytes)?;
+            let (stack, rest) = type_at(only_frames(left), bytes, missing)?;
             Ok((RawFrame::SameWithOne { delta, stack }, rest))
         }
         FrameTag::SameWithOneExtended => {
             let (delta, rest) = number_at(bytes)?;
-            let (stack, rest) = type_at(only_frames(left), rest)?;
+            let (stack, rest) = type_at(only_frames(left), rest, missing)?;
             Ok((RawFrame::SameWithOneExtended { delta, stack }, rest))
         }
         FrameTag::Chop { count } => {
@@ -174,33 +186,44 @@ fn frame_behind(
         }
         FrameTag::Append { count } => {
             let (delta, rest) = number_at(bytes)?;
-            let (locals, rest) = types_in(alloc, u16::from(count), only_frames(left), rest)?;
+            let (locals, rest) = types_in(
+                alloc,
+                u16::from(count),
+                only_frames(left),
+                rest,
+                missing,
+            )?;
             Ok((RawFrame::Append { delta, locals }, rest))
         }
-        FrameTag::Full => full_behind(alloc, left, bytes),
+        FrameTag::Full => full_behind(alloc, left, bytes, missing),
     }
 }
 
 /// A frame, behind which there are so many more.
 #[tactic(auto, unfolding(crate::specs::Reading::frame_at))]
-fn frame_at(alloc: Global, left: u16, bytes: &[u8]) -> Result<(RawFrame, &[u8]), Stop>
-    requires { length bytes.now < 2 ^ 32 }
-    ensures gives { Gives (λ x. (x.0, x.1.now)) result (frame_at left bytes.now) }
+fn frame_at(alloc: Global, left: u16, bytes: &[u8], missing: u32) -> Result<(RawFrame, &[u8]), Stop>
+    requires { length bytes.now + missing < 2 ^ 32 }
+    ensures gives { Gives (λ x. (x.0, x.1.now)) result (frame_at missing left bytes.now) }
     ensures shorter { IfOk result (λ x. length x.1.now ≤ length bytes.now) }
 {
-    let (tag, rest) = frame_tag_at(left, bytes)?;
-    frame_behind(alloc, left, tag, rest)
+    let (tag, rest) = frame_tag_at(left, bytes, missing)?;
+    frame_behind(alloc, left, tag, rest, missing)
 }
 
-fn frames_in(alloc: Global, count: u16, bytes: &[u8]) -> Result<(Vec<RawFrame>, &[u8]), Stop>
-    requires { length bytes.now < 2 ^ 32 }
-    ensures gives { Gives (λ x. (x.0.items, x.1.now)) result (frames_in count bytes.now) }
+fn frames_in(
+    alloc: Global,
+    count: u16,
+    bytes: &[u8],
+    missing: u32,
+) -> Result<(Vec<RawFrame>, &[u8]), Stop>
+    requires { length bytes.now + missing < 2 ^ 32 }
+    ensures gives { Gives (λ x. (x.0.items, x.1.now)) result (frames_in missing count bytes.now) }
     ensures shorter { IfOk result (λ x. length x.1.now ≤ length bytes.now) }
 {
     let mut frames = Vec::new(alloc);
     let mut rest = bytes;
     for place in 0..count {
-        let (frame, after) = frame_at(alloc, count - place - 1, rest)?;
+        let (frame, after) = frame_at(alloc, count - place - 1, rest, missing)?;
         frames.push(frame)?;
         rest = after;
     }
@@ -209,10 +232,14 @@ fn frames_in(alloc: Global, count: u16, bytes: &[u8]) -> Result<(Vec<RawFrame>, 
 
 /// The frames of a table that fills the bytes, and what is left, which is nothing.
 #[tactic(auto, unfolding(crate::specs::Reading::table_at))]
-pub(crate) fn table_at(alloc: Global, bytes: &[u8]) -> Result<(Vec<RawFrame>, &[u8]), Stop>
-    requires { length bytes.now < 2 ^ 32 }
-    ensures gives { Gives (λ x. (x.0.items, x.1.now)) result (table_at bytes.now) }
+pub(crate) fn table_at(
+    alloc: Global,
+    bytes: &[u8],
+    missing: u32,
+) -> Result<(Vec<RawFrame>, &[u8]), Stop>
+    requires { length bytes.now + missing < 2 ^ 32 }
+    ensures gives { Gives (λ x. (x.0.items, x.1.now)) result (table_at missing bytes.now) }
 {
-    let (count, rest) = count_at(FrameKind::Frame, only_frames(0), bytes)?;
-    frames_in(alloc, count, rest)
+    let (count, rest) = count_at(FrameKind::Frame, only_frames(0), bytes, missing)?;
+    frames_in(alloc, count, rest, missing)
 }

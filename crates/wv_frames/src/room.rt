@@ -1,5 +1,5 @@
 //! Numbers, and what fits behind them.
-ghost use Rattle.std.specs.Prelude.{◌≡◌, ◌^◌, ◌<◌, ◌≤◌, length, IfOk};
+ghost use Rattle.std.specs.Prelude.{◌≡◌, ◌+◌, ◌^◌, ◌<◌, ◌≤◌, length, IfOk};
 ghost use Rattle.wv_pool.specs.Reading.{fixed, number};
 ghost use Rattle.wv_frames.specs.Reading.{Gives, fits_in, count_at};
 
@@ -26,22 +26,27 @@ pub(crate) fn number_at(bytes: &[u8]) -> Result<(u16, &[u8]), Stop>
 }
 
 /// A count of items that fit behind it, besides what else is to come.
-pub(crate) fn count_at(kind: FrameKind, besides: Frames, bytes: &[u8]) -> Result<(u16, &[u8]), Stop>
-    requires { length bytes.now < 2 ^ 32 }
-    ensures gives { Gives (λ x. (x.0, x.1.now)) result (count_at kind besides bytes.now) }
+pub(crate) fn count_at(
+    kind: FrameKind,
+    besides: Frames,
+    bytes: &[u8],
+    missing: u32,
+) -> Result<(u16, &[u8]), Stop>
+    requires { length bytes.now + missing < 2 ^ 32 }
+    ensures gives { Gives (λ x. (x.0, x.1.now)) result (count_at missing kind besides bytes.now) }
     ensures shorter { IfOk result (λ x. length x.1.now ≤ length bytes.now) }
 {
-    let [_, _, rest @ ..] = bytes else {
+    let size = bytes.len() + missing as usize;
+    if size < 2 {
         return Err(Stop::Left(bytes.len()));
-    };
-    let room = rest.len() as u32;
+    }
     let allowed = FrameCount {
         kind,
         besides,
-        room,
+        room: (size - 2) as u32,
     };
     match read_number(bytes, 2, &allowed) {
-        Ok(count) => Ok((count as u16, rest)),
+        Ok(count) => Ok((count as u16, &bytes[2..])),
         Err(place) => Err(Stop::Left(bytes.len() - place)),
     }
 }

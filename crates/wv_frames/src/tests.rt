@@ -53,6 +53,25 @@ fn fault(alloc: Global, bytes: &[u8]) -> Result<Option<Result<usize, usize>>, Fa
     })
 }
 
+/// Where the layout of a front of a table fails that isn't long and has so many bytes more.
+fn front_fault(alloc: Global, bytes: &[u8], missing: u32) -> Option<usize> {
+    if bytes.len() > 0xFFFF || missing > 0xFFFF {
+        return None;
+    }
+    match read_layout(alloc, bytes, missing) {
+        Err(ClassFault::Layout { at }) => Some(at),
+        _ => None,
+    }
+}
+
+/// How many frames the layout of a whole table has that isn't long.
+fn frame_count(alloc: Global, bytes: &[u8]) -> Result<usize, ClassFault> {
+    if bytes.len() > 0xFFFF {
+        return Err(ClassFault::Memory);
+    }
+    Ok(read_layout(alloc, bytes, 0)?.len())
+}
+
 /// Where reading the table fails with another byte at a place.
 fn changed(alloc: Global, at: usize, byte: u8) -> Result<Option<Result<usize, usize>>, Fail> {
     let mut bytes = EACH;
@@ -118,6 +137,58 @@ fn cut_at_every_byte(rt: HostRuntime) -> Result<(), Fail> {
             "cut at {end}"
         );
     }
+    Ok(())
+}
+
+/// Where the table's last frame begins, a chop of three bytes.
+const LAST: usize = 35;
+
+#[test]
+fn fronts_of_a_table(rt: HostRuntime) -> Result<(), Fail> {
+    for end in 0..EACH.len() {
+        let front = &EACH[..end];
+        let missing = (EACH.len() - end) as u32;
+        let found = front_fault(rt.alloc(), front, missing);
+        assert_eq!(rt; found, Some(end), "cut at {end}");
+        // In a table with a byte fewer or more the last frame is of another kind.
+        let want = Some(end.min(LAST));
+        let less = front_fault(rt.alloc(), front, missing - 1);
+        assert_eq!(rt; less, want, "a byte fewer, cut at {end}");
+        let more = front_fault(rt.alloc(), front, missing + 1);
+        assert_eq!(rt; more, want, "a byte more, cut at {end}");
+    }
+    assert_eq!(rt; frame_count(rt.alloc(), &EACH)?, 8);
+    assert_eq!(rt; front_fault(rt.alloc(), &EACH, 1), Some(LAST));
+    Ok(())
+}
+
+#[test]
+fn what_fills_the_missing_bytes(rt: HostRuntime) -> Result<(), Fail> {
+    let alloc = rt.alloc();
+    // no table has less than its count
+    for (front, missing) in [(&[][..], 0), (&[][..], 1), (&[][..], 2), (&[0][..], 0)] {
+        assert_eq!(rt; front_fault(alloc, front, missing), Some(0));
+    }
+    // 256 frames or more, of which the first byte is there
+    assert_eq!(rt; front_fault(alloc, &[1], 256), Some(0));
+    assert_eq!(rt; front_fault(alloc, &[1], 257), Some(1));
+    // five frames, and none
+    assert_eq!(rt; front_fault(alloc, &[0, 5], 4), Some(1));
+    assert_eq!(rt; front_fault(alloc, &[0, 5], 5), Some(2));
+    assert_eq!(rt; front_fault(alloc, &[0, 0], 1), Some(1));
+    // a full frame: five locals, then 256 or more, and a stack of two types
+    let five = [0, 1, 255, 0, 0, 0, 5];
+    assert_eq!(rt; front_fault(alloc, &five, 6), Some(6));
+    assert_eq!(rt; front_fault(alloc, &five, 7), Some(7));
+    let many = [0, 1, 255, 0, 0, 1];
+    assert_eq!(rt; front_fault(alloc, &many, 258), Some(5));
+    assert_eq!(rt; front_fault(alloc, &many, 259), Some(6));
+    let stack = [0, 1, 255, 0, 0, 0, 0, 0, 2];
+    assert_eq!(rt; front_fault(alloc, &stack, 3), Some(8));
+    assert_eq!(rt; front_fault(alloc, &stack, 4), Some(9));
+    // a number and a type, which has one byte or three
+    assert_eq!(rt; front_fault(alloc, &[0, 1, 247], 4), Some(2));
+    assert_eq!(rt; front_fault(alloc, &[0, 1, 247], 5), Some(3));
     Ok(())
 }
 

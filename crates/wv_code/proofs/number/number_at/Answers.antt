@@ -1,8 +1,9 @@
 use Rattle.std.proofs.Common.{◌≡◌, ℕ, Bool, true, length, ◌-◌, List, take, drop, Ok, Err, refl, sym, ap, subst, ◌∙◌, arith}
 use Rattle.std.proofs.lemmas.List.{length-drop}
 use Rattle.std.proofs.Math.Seq.{take-length}
-use Rattle.wv_code.specs.Reading.{number_from}
+use Rattle.wv_code.specs.Number.{number_from}
 use Rattle.wv_code.proofs.Numbers.{are_bytes, number_found, number_stops, numbers}
+use Rattle.wv_code.proofs.Insns.{insns_stop}
 use Rattle.wv_code.proofs.number.number_at.Goals as goal
 
 pub returns-in-Ok-clause-gives : goal.returns-in-Ok-clause-gives

@@ -5,6 +5,6 @@ use Rattle.wv_frames.proofs.layout.frames_in.Given as goal
 
 abbrev pub invariant-loop-place : goal.invariant-loop-place
 invariant-loop-place l = record {
-  gives : with_front l.frames.items (frames_in (l.count - l.place) l.rest) ≡ frames_in l.count l.bytes;
+  gives : with_front l.frames.items (frames_in l.missing (l.count - l.place) l.rest) ≡ frames_in l.missing l.count l.bytes;
   shorter : length l.rest ≤ length l.bytes;
 }

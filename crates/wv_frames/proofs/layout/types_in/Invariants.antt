@@ -5,6 +5,6 @@ use Rattle.wv_frames.proofs.layout.types_in.Given as goal
 
 abbrev pub invariant-loop-place : goal.invariant-loop-place
 invariant-loop-place l = record {
-  gives : with_front l.types (types_in (l.count - l.place) l.behind l.rest) ≡ types_in l.count l.behind l.bytes;
+  gives : with_front l.types (types_in l.missing (l.count - l.place) l.behind l.rest) ≡ types_in l.missing l.count l.behind l.bytes;
   shorter : length l.rest ≤ length l.bytes;
 }
