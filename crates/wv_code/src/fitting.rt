@@ -167,6 +167,7 @@ fn wide_room(behind: Behind, bytes: &[u8]) -> Result<(), Stop>
 }
 
 /// Stops at the first byte with which no instruction fits the room, as far as the room tells.
+#[tactic(auto, unfolding(crate::specs::Fitting::room_at))]
 fn check_room(at: usize, behind: Behind, bytes: &[u8]) -> Result<(), Stop>
     requires { IsBounded behind bytes.now }
     ensures { Gives (λ x. x) result (room_at at behind.tail behind.missing bytes.now) }
