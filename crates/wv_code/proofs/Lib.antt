@@ -12,4 +12,6 @@ pub mod Numbers
 pub mod Insns
 pub mod SwitchNumbers
 pub mod RoomReads
+pub mod Decoded
+pub mod SwitchReads
 pub mod InsnReads

@@ -56,7 +56,7 @@ module _ {A : Type 0} {read : List ℕ → Result (A × List ℕ) ℕ} {S : A �
 
 -- ---- a byte behind which something fits
 
-chosen_ok : {A : Type 0} (b : Bool) (d : ℕ) (x y : A) → cond b (Ok x) (Err d) ≡ Ok y → (b ≡ true) × (x ≡ y)
+pub chosen_ok : {A : Type 0} (b : Bool) (d : ℕ) (x y : A) → cond b (Ok x) (Err d) ≡ Ok y → (b ≡ true) × (x ≡ y)
 chosen_ok true d x y e = (refl, cc)
 chosen_ok false d x y e = absurd cc
 
@@ -98,6 +98,15 @@ module _ {A : Type 0} (meaning : ℕ → Option A) (behind : A → ℕ) (tail le
       stays = stays;
     })
 
+  none_stays : (b missing : ℕ) (rest : List ℕ) → meaning b ≡ None → (others : List ℕ) (more : ℕ) → length others + more ≡ length rest + missing → byte_in meaning behind tail more (b ∷ others) ≡ Err (suc (length others))
+  none_stays b missing rest none others more len = rw none refl
+
+  some_stays : (b missing : ℕ) (rest : List ℕ) (x : A) → meaning b ≡ Some x → leb (behind x + tail) (length rest + missing) ≡ false → (others : List ℕ) (more : ℕ) → length others + more ≡ length rest + missing
+      → byte_in meaning behind tail more (b ∷ others) ≡ Err (suc (length others))
+  some_stays b missing rest x some fails others more len =
+      let same : leb (behind x + tail) (length others + more) ≡ false = ap (leb (behind x + tail)) len ∙ fails in
+      rw (some, same) refl
+
   byte_stops : (missing : ℕ) (bytes : List ℕ) (left : ℕ) → IsBytes bytes → least + tail < length bytes + missing → byte_in meaning behind tail missing bytes ≡ Err left → Stopped (byte_in meaning behind tail) (Meant meaning) Room missing bytes left
   byte_stops missing [] left fits room e = inr (record {
       place = cc;
@@ -107,15 +116,13 @@ module _ {A : Type 0} (meaning : ℕ → Option A) (behind : A → ℕ) (tail le
   byte_stops missing (b ∷ rest) left fits room e = elim (option_is (meaning b)) [
     | inl none ↦
         let failed : Path (Result (A × List ℕ) ℕ) (Err (suc (length rest))) (Err left) = rw none at e in
-        byte_breaks missing b rest left room cc (λ others more len. rw none refl)
+        let place : left ≡ suc (length rest) = cc in
+        byte_breaks missing b rest left room place (none_stays b missing rest none)
     | inr some ↦
         let test : Bool = leb (behind some.0 + tail) (length rest + missing) in
         let failed : Path (Result (A × List ℕ) ℕ) (cond test (Ok (some.0, rest)) (Err (suc (length rest)))) (Err left) = rw some.1 at e in
         let chosen = chosen_err test (suc (length rest)) left (some.0, rest) failed in
-        byte_breaks missing b rest left room (sym chosen.1)
-        (λ others more len.
-            let same : leb (behind some.0 + tail) (length others + more) ≡ false = ap (leb (behind some.0 + tail)) len ∙ chosen.0 in
-            rw (some.1, same) refl)
+        byte_breaks missing b rest left room (sym chosen.1) (some_stays b missing rest some.0 some.1 chosen.0)
   ]
 
   pub byte_reads : Reads (byte_in meaning behind tail) (Meant meaning) (λ n. least + tail < n) Room
