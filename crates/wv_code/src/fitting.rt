@@ -185,6 +185,7 @@ fn check_room(at: usize, behind: Behind, bytes: &[u8]) -> Result<(), Stop>
 /// behind the method's code, where at least `tail` bytes stand; of all these the last ones, so many
 /// as `missing` says, aren't there. It stops at the first byte with which no instruction goes on
 /// that fits the room before the tail.
+#[tactic(auto, unfolding(crate::specs::Fitting::insn_at))]
 pub(crate) fn insn_at<'a>(
     alloc: Global,
     code: &'a [u8],
