@@ -84,13 +84,13 @@ operands_reads at op tail form.Lookup = lookup_reads at op tail
 operands_reads at op tail form.Reference = sized 2 tail (λ r text t. ap length t.2.1) (operands at op form.Reference)
 operands_reads at op tail form.Interface = sized 4 tail
     (λ r text t.
-        let u = t.second_is in
-        omega (arith, ap length t.parts, length-append t.front t.back, ap length t.first_is.1, ap length u.parts, length-append u.front u.back, ap length u.first_is.1, ap length u.second_is.2.1))
+    let u = t.second_is in
+    omega (arith, ap length t.parts, length-append t.front t.back, ap length t.first_is.1, ap length u.parts, length-append u.front u.back, ap length u.first_is.1, ap length u.second_is.2.1))
     (operands at op form.Interface)
 operands_reads at op tail form.Dynamic = sized 4 tail
     (λ r text t.
-        let u = t.second_is in
-        omega (arith, ap length t.parts, length-append t.front t.back, ap length t.first_is.1, ap length u.parts, length-append u.front u.back, ap length u.first_is.0, ap length u.second_is.2.0))
+    let u = t.second_is in
+    omega (arith, ap length t.parts, length-append t.front t.back, ap length t.first_is.1, ap length u.parts, length-append u.front u.back, ap length u.first_is.0, ap length u.second_is.2.0))
     (operands at op form.Dynamic)
 operands_reads at op tail form.Class = sized 2 tail (λ r text t. ap length t.2.1) (operands at op form.Class)
 operands_reads at op tail form.Array = sized 1 tail (λ r text t. ap length t.2.1) (operands at op form.Array)

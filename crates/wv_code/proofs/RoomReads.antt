@@ -89,14 +89,14 @@ module _ {A : Type 0} (meaning : ℕ → Option A) (behind : A → ℕ) (tail le
   byte_breaks : (missing b : ℕ) (rest : List ℕ) (left : ℕ) → least + tail < suc (length rest) + missing → left ≡ suc (length rest)
       → ((others : List ℕ) (more : ℕ) → length others + more ≡ length rest + missing → byte_in meaning behind tail more (b ∷ others) ≡ Err (suc (length others))) → Stopped (byte_in meaning behind tail) (Meant meaning) Room missing (b ∷ rest) left
   byte_breaks missing b rest left room place stays = inl (record {
-      front = [];
-      byte = b;
-      rest = rest;
-      parts = refl;
-      place = place;
-      begun = record { value = value; more = byte ∷ []; extra = length rest + missing; spelled = example; rest = omega (arith, room, is); sum = omega arith };
-      stays = stays;
-    })
+    front = [];
+    byte = b;
+    rest = rest;
+    parts = refl;
+    place = place;
+    begun = record { value = value; more = byte ∷ []; extra = length rest + missing; spelled = example; rest = omega (arith, room, is); sum = omega arith };
+    stays = stays;
+  })
 
   none_stays : (b missing : ℕ) (rest : List ℕ) → meaning b ≡ None → (others : List ℕ) (more : ℕ) → length others + more ≡ length rest + missing → byte_in meaning behind tail more (b ∷ others) ≡ Err (suc (length others))
   none_stays b missing rest none others more len = rw none refl
@@ -109,10 +109,10 @@ module _ {A : Type 0} (meaning : ℕ → Option A) (behind : A → ℕ) (tail le
 
   byte_stops : (missing : ℕ) (bytes : List ℕ) (left : ℕ) → IsBytes bytes → least + tail < length bytes + missing → byte_in meaning behind tail missing bytes ≡ Err left → Stopped (byte_in meaning behind tail) (Meant meaning) Room missing bytes left
   byte_stops missing [] left fits room e = inr (record {
-      place = cc;
-      some = omega (arith, room);
-      begun = record { value = value; more = byte ∷ []; extra = missing - 1; spelled = example; rest = omega (arith, room, is); sum = omega (arith, room) };
-    })
+    place = cc;
+    some = omega (arith, room);
+    begun = record { value = value; more = byte ∷ []; extra = missing - 1; spelled = example; rest = omega (arith, room, is); sum = omega (arith, room) };
+  })
   byte_stops missing (b ∷ rest) left fits room e = elim (option_is (meaning b)) [
     | inl none ↦
         let failed : Path (Result (A × List ℕ) ℕ) (Err (suc (length rest))) (Err left) = rw none at e in
@@ -146,14 +146,14 @@ module _ {A B : Type 0} {read : ℕ → List ℕ → Result (A × List ℕ) ℕ}
 
   mapped_stopped : (missing : ℕ) (bytes : List ℕ) (left : ℕ) → Stopped read S Q missing bytes left → Stopped mapped_read T U missing bytes left
   mapped_stopped missing bytes left (inl d) = inl (record {
-      front = d.front;
-      byte = d.byte;
-      rest = d.rest;
-      parts = d.parts;
-      place = d.place;
-      begun = mapped_begun d.front (suc (length d.rest + missing)) d.begun;
-      stays = λ others more len. rw (d.stays others more len) refl;
-    })
+    front = d.front;
+    byte = d.byte;
+    rest = d.rest;
+    parts = d.parts;
+    place = d.place;
+    begun = mapped_begun d.front (suc (length d.rest + missing)) d.begun;
+    stays = λ others more len. rw (d.stays others more len) refl;
+  })
   mapped_stopped missing bytes left (inr d) = inr (record { place = d.place; some = d.some; begun = mapped_begun bytes missing d.begun })
 
   mapped_takes : (missing : ℕ) (bytes : List ℕ) (y : B × List ℕ) → IsBytes bytes → P (length bytes + missing) → mapped_read missing bytes ≡ Ok y → Taken T U missing bytes y

@@ -283,17 +283,17 @@ unfolding table_room table_at
 table_alike at tail missing bytes =
     bind_tested (bytes_at (padding at) bytes) (bytes_at (padding at) bytes) _ _ (λ pad e. e)
     ∙ bind_same (bytes_at (padding at) bytes) _ _ (λ pad.
-        bind_tested (signed_at w32 pad.1) (signed_at w32 pad.1) _ _ (λ other e. e)
-        ∙ bind_same (signed_at w32 pad.1) _ _ (λ other.
-            bind_seen (part_at parts.Low tail missing other.1) (signed_at w32 other.1) (λ x. (cast_signed w32 x.0, x.1)) (high_room tail missing) (λ low. signed_at w32 low.1 >>= behind_high other.0 low) (part_signed parts.Low tail missing other.1)
-            ∙ bind_same (low_in tail missing other.1) _ _ (λ low.
-                bind_seen (part_at (parts.High low.0) tail missing low.1) (signed_at w32 low.1) (λ x. (cast_signed w32 x.0, x.1)) (λ y. passed) (behind_high other.0 low) (part_signed (parts.High low.0) tail missing low.1))))
+    bind_tested (signed_at w32 pad.1) (signed_at w32 pad.1) _ _ (λ other e. e)
+    ∙ bind_same (signed_at w32 pad.1) _ _ (λ other.
+    bind_seen (part_at parts.Low tail missing other.1) (signed_at w32 other.1) (λ x. (cast_signed w32 x.0, x.1)) (high_room tail missing) (λ low. signed_at w32 low.1 >>= behind_high other.0 low) (part_signed parts.Low tail missing other.1)
+    ∙ bind_same (low_in tail missing other.1) _ _ (λ low.
+    bind_seen (part_at (parts.High low.0) tail missing low.1) (signed_at w32 low.1) (λ x. (cast_signed w32 x.0, x.1)) (λ y. passed) (behind_high other.0 low) (part_signed (parts.High low.0) tail missing low.1))))
 
 pub lookup_alike : (at tail missing : ℕ) (bytes : List ℕ) → (lookup_room at tail missing bytes >>= λ u. lookup_at at bytes) ≡ lookup_in at tail missing bytes
 unfolding lookup_room lookup_at
 lookup_alike at tail missing bytes =
     bind_tested (bytes_at (padding at) bytes) (bytes_at (padding at) bytes) _ _ (λ pad e. e)
     ∙ bind_same (bytes_at (padding at) bytes) _ _ (λ pad.
-        bind_tested (signed_at w32 pad.1) (signed_at w32 pad.1) _ _ (λ other e. e)
-        ∙ bind_same (signed_at w32 pad.1) _ _ (λ other.
-            bind_seen (part_at parts.Count tail missing other.1) (count_at other.1) (λ x. (x.0, x.1)) (λ y. passed) (λ count. times case_at count.0 count.1 >>= λ cases. Ok (raw.Lookup other.0 cases.0, cases.1)) (part_counted tail missing other.1)))
+    bind_tested (signed_at w32 pad.1) (signed_at w32 pad.1) _ _ (λ other e. e)
+    ∙ bind_same (signed_at w32 pad.1) _ _ (λ other.
+    bind_seen (part_at parts.Count tail missing other.1) (count_at other.1) (λ x. (x.0, x.1)) (λ y. passed) (λ count. times case_at count.0 count.1 >>= λ cases. Ok (raw.Lookup other.0 cases.0, cases.1)) (part_counted tail missing other.1)))

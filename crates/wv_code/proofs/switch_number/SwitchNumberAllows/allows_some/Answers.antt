@@ -5,10 +5,9 @@ use Rattle.wv_code.proofs.switch_number.SwitchNumberAllows.allows_some.Goals.{th
 
 pub returns-then-allows_value : goal.returns-then-allows_value
 returns-then-allows_value c =
-    let s = c.args.self.now in
-    (
+    let s = c.args.self.now in (
       λ t. elim c.then-allows_value.branch [
-        then-allows_value-via-then-allows_value w ↦ tried s.part s.tail s.room c.args.least c.args.most c.requires (inl (c.allows_value.ensures.0 w.if-allows_value.true))
+        | then-allows_value-via-then-allows_value w ↦ tried s.part s.tail s.room c.args.least c.args.most c.requires (inl (c.allows_value.ensures.0 w.if-allows_value.true))
         | then-allows_value-via-else-allows_value+then-allows_value-2 w ↦ tried s.part s.tail s.room c.args.least c.args.most c.requires (inr (inl (w.allows_value-else-allows_value.ensures.0 w.if-allows_value-2.true)))
       ],
       λ a. refl,
