@@ -15,3 +15,7 @@ pub mod RoomReads
 pub mod Decoded
 pub mod SwitchReads
 pub mod InsnReads
+pub mod Rooms
+pub mod ContentParts
+pub mod AttributeReads
+pub mod ContentReads

@@ -280,19 +280,26 @@ stopped_from test (suc w) n (b ∷ rest) left are some e = elim (cases_Bool (som
     })
 ]
 
+-- a number of so many bytes that passes the test for what is left
+abbrev pub Passes : ℕ → (ℕ → ℕ → Bool) → ℕ → ℕ → Type 0
+Passes w test n m = (n < 256 ^ w) × (test m n ≡ true)
+
+number_below : (w : ℕ) (text : List ℕ) → length text ≡ w → AreBytes text → number_of text < 256 ^ w
+number_below w text long are = subst (λ (k : ℕ). number_of text < 256 ^ k) long (below text are)
+
 -- what begins a number that passes
-goes_begun : (w : ℕ) (test : ℕ → ℕ → Bool) (room : ℕ) (front : List ℕ) (n : ℕ) → Goes (test room) w 0 front → n + length front ≡ w + room → Begun (IsNumber w) (λ k m. test m k ≡ true) front n
+goes_begun : (w : ℕ) (test : ℕ → ℕ → Bool) (room : ℕ) (front : List ℕ) (n : ℕ) → Goes (test room) w 0 front → n + length front ≡ w + room → Begun (IsNumber w) (Passes w test) front n
 goes_begun w test room front n g sum = record {
   value = number_of (front ++ g.more);
   more = g.more;
   extra = room;
   spelled = (omega (arith, length-append front g.more, g.long), g.bytes, refl);
-  rest = ap (test room) (sym (zero_times (256 ^ w) (number_of (front ++ g.more)))) ∙ g.passes;
+  rest = (number_below w (front ++ g.more) (omega (arith, length-append front g.more, g.long)) g.bytes, ap (test room) (sym (zero_times (256 ^ w) (number_of (front ++ g.more)))) ∙ g.passes);
   sum = omega (arith, sum, g.long);
 }
 
 -- A number of so many bytes, behind which it passes the test for what is left.
-pub numbers : (w : ℕ) (test : ℕ → ℕ → Bool) → Reads (number_at w test) (IsNumber w) (NumberRoom w test) (λ n m. test m n ≡ true)
+pub numbers : (w : ℕ) (test : ℕ → ℕ → Bool) → Reads (number_at w test) (IsNumber w) (NumberRoom w test) (Passes w test)
 numbers w test = record { takes = takes; again = again; stops = stops; there = there; back = back }
   where
     room_is : (missing total : ℕ) (bytes : List ℕ) (p : NumberRoom w test (length bytes + missing)) → length bytes + missing - w ≡ p.more
@@ -301,7 +308,7 @@ numbers w test = record { takes = takes; again = again; stops = stops; there = t
     with_room : (missing : ℕ) (bytes : List ℕ) (r : Result (ℕ × List ℕ) ℕ) (p : NumberRoom w test (length bytes + missing)) → number_at w test missing bytes ≡ r → number_from (test p.more) w 0 bytes ≡ r
     with_room missing bytes r p e = ap (λ (k : ℕ). number_from (test k) w 0 bytes) (sym (room_is missing 0 bytes p)) ∙ e
 
-    takes : (missing : ℕ) (bytes : List ℕ) (x : ℕ × List ℕ) → IsBytes bytes → NumberRoom w test (length bytes + missing) → number_at w test missing bytes ≡ Ok x → Taken (IsNumber w) (λ n m. test m n ≡ true) missing bytes x
+    takes : (missing : ℕ) (bytes : List ℕ) (x : ℕ × List ℕ) → IsBytes bytes → NumberRoom w test (length bytes + missing) → number_at w test missing bytes ≡ Ok x → Taken (IsNumber w) (Passes w test) missing bytes x
     takes missing bytes x fits p e =
         let t = taken_from (test p.more) w 0 bytes x (are_bytes bytes fits) p.some (with_room missing bytes (Ok x) p e) in
         let value : number_of t.text ≡ x.0 = sym (t.value ∙ zero_times (256 ^ w) (number_of t.text)) in
@@ -309,18 +316,21 @@ numbers w test = record { takes = takes; again = again; stops = stops; there = t
           text = t.text;
           parts = t.parts;
           spelled = (t.long, t.bytes_are, value);
-          rest = subst (λ (k : ℕ). test k x.0 ≡ true) (omega (arith, p.sum, t.long, ap length t.parts, length-append t.text x.1)) t.passes;
+          rest = (
+            subst (λ (k : ℕ). k < 256 ^ w) value (number_below w t.text t.long t.bytes_are),
+            subst (λ (k : ℕ). test k x.0 ≡ true) (omega (arith, p.sum, t.long, ap length t.parts, length-append t.text x.1)) t.passes,
+          );
         }
 
-    again : (missing value : ℕ) (text rest : List ℕ) → IsNumber w value text → test (length rest + missing) value ≡ true → number_at w test missing (text ++ rest) ≡ Ok (value, rest)
+    again : (missing value : ℕ) (text rest : List ℕ) → IsNumber w value text → Passes w test value (length rest + missing) → number_at w test missing (text ++ rest) ≡ Ok (value, rest)
     again missing value text rest s q =
         let room : length (text ++ rest) + missing - w ≡ length rest + missing = omega (arith, s.0, length-append text rest) in
         let same : 0 * 256 ^ w + number_of text ≡ value = zero_times (256 ^ w) (number_of text) ∙ s.2 in
         ap (λ (k : ℕ). number_from (test k) w 0 (text ++ rest)) room
-        ∙ again_from (test (length rest + missing)) w 0 text rest s.0 s.1 (ap (test (length rest + missing)) same ∙ q)
+        ∙ again_from (test (length rest + missing)) w 0 text rest s.0 s.1 (ap (test (length rest + missing)) same ∙ q.1)
         ∙ ap (λ (k : ℕ). Ok (k, rest)) same
 
-    stops : (missing : ℕ) (bytes : List ℕ) (left : ℕ) → IsBytes bytes → NumberRoom w test (length bytes + missing) → number_at w test missing bytes ≡ Err left → Stopped (number_at w test) (IsNumber w) (λ n m. test m n ≡ true) missing bytes left
+    stops : (missing : ℕ) (bytes : List ℕ) (left : ℕ) → IsBytes bytes → NumberRoom w test (length bytes + missing) → number_at w test missing bytes ≡ Err left → Stopped (number_at w test) (IsNumber w) (Passes w test) missing bytes left
     stops missing bytes left fits p e = elim (stopped_from (test p.more) w 0 bytes left (are_bytes bytes fits) p.some (with_room missing bytes (Err left) p e)) [
       | inl d ↦
           let sizes : length bytes ≡ length d.front + suc (length d.rest) = ap length d.parts ∙ length-append d.front (d.byte ∷ d.rest) in
@@ -336,14 +346,14 @@ numbers w test = record { takes = takes; again = again; stops = stops; there = t
       | inr d ↦ inr (record { place = d.place; some = omega (arith, d.short, p.sum); begun = goes_begun w test p.more bytes missing d.goes (omega (arith, p.sum)) })
     ]
 
-    there : (n : ℕ) → NumberRoom w test n → Fill (IsNumber w) (λ k m. test m k ≡ true) n
+    there : (n : ℕ) → NumberRoom w test n → Fill (IsNumber w) (Passes w test) n
     there n p =
         let g = true_goes (test p.more) w 0 p.some in
-        record { value = number_of g.more; text = g.more; more = p.more; spelled = (omega (arith, g.long), g.bytes, refl); rest = ap (test p.more) (sym (zero_times (256 ^ w) (number_of g.more))) ∙ g.passes; sum = omega (arith, p.sum, g.long) }
+        record { value = number_of g.more; text = g.more; more = p.more; spelled = (omega (arith, g.long), g.bytes, refl); rest = (number_below w g.more (omega (arith, g.long)) g.bytes, ap (test p.more) (sym (zero_times (256 ^ w) (number_of g.more))) ∙ g.passes); sum = omega (arith, p.sum, g.long) }
 
-    back : (value : ℕ) (text : List ℕ) (m : ℕ) → IsNumber w value text → test m value ≡ true → NumberRoom w test (length text + m)
+    back : (value : ℕ) (text : List ℕ) (m : ℕ) → IsNumber w value text → Passes w test value m → NumberRoom w test (length text + m)
     back value text m s q = record {
       more = m;
       sum = omega (arith, s.0);
-      some = goes_true (test m) w 0 text (record { more = []; long = omega (arith, s.0); bytes = subst AreBytes (sym (append-nil text)) s.1; passes = ap (test m) (zero_times (256 ^ w) (number_of (text ++ [])) ∙ ap number_of (append-nil text) ∙ s.2) ∙ q });
+      some = goes_true (test m) w 0 text (record { more = []; long = omega (arith, s.0); bytes = subst AreBytes (sym (append-nil text)) s.1; passes = ap (test m) (zero_times (256 ^ w) (number_of (text ++ [])) ∙ ap number_of (append-nil text) ∙ s.2) ∙ q.1 });
     }

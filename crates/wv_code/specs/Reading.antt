@@ -44,13 +44,21 @@ range_at bytes = do
   catch ← fixed 2 number handler.1
   Ok (record { start = start.0; end = end.0; handler = handler.0; catch = catch.0 }, catch.1)
 
--- the tables behind the code can fill so many bytes: no range, and no attribute or at least six bytes of one
-abbrev pub tables_fill : ℕ → Bool
-tables_fill n = n == 4 || nat_le 10 n
+-- the longest attribute: its six bytes and the longest content (4.7)
+abbrev pub longest : ℕ
+longest = 4294967301
 
--- the table of attributes can
-abbrev pub attributes_fill : ℕ → Bool
-attributes_fill n = n == 2 || nat_le 8 n
+-- so many attributes can fill so many bytes exactly
+unfoldable pub attributes_fit : ℕ → ℕ → Bool
+attributes_fit room n = nat_le (6 * n) room && nat_le room (longest * n)
+
+-- a table of attributes can fill so many bytes: its count, and no attribute or some
+unfoldable pub attributes_fill : ℕ → Bool
+attributes_fill n = n == 2 || (nat_le 8 n && nat_le n (2 + longest * 65535))
+
+-- the tables behind the code can: no range and no attribute, or some
+unfoldable pub tables_fill : ℕ → Bool
+tables_fill n = n == 4 || (nat_le 10 n && nat_le n (4 + 8 * 65535 + longest * 65535))
 
 -- code of so many bytes fits the room behind its length
 unfoldable pub code_fits : ℕ → ℕ → Bool
@@ -59,10 +67,6 @@ code_fits room n = nat_le n room && tables_fill (room - n)
 -- so many ranges of eight bytes fit the room behind their count
 unfoldable pub ranges_fit : ℕ → ℕ → Bool
 ranges_fit room n = nat_le (8 * n) room && attributes_fill (room - 8 * n)
-
--- so many attributes of six bytes and more fit the room behind their count
-unfoldable pub attributes_fit : ℕ → ℕ → Bool
-attributes_fit room n = if n == 0 then room == 0 else nat_le (6 * n) room
 
 -- the units of the name StackMapTable (4.7.4)
 abbrev pub is_frames : Option (List ℕ) → Bool
@@ -77,13 +81,13 @@ names_frames pool name = is_frames (text_of pool name)
 abbrev pub least_content : List PoolEntry → ℕ → ℕ
 least_content pool name = if names_frames pool name then 2 else 0
 
--- an attribute with the name, and so many more, fit the room behind the name
-unfoldable pub name_fits : List PoolEntry → ℕ → ℕ → ℕ → Bool
-name_fits pool left room name = nat_le (4 + least_content pool name + 6 * left) room
-
 -- a content of at least so many bytes has this length, where so many attributes are behind it
 unfoldable pub length_fits : ℕ → ℕ → ℕ → ℕ → Bool
-length_fits least left room n = nat_le least n && (if left == 0 then n == room else nat_le (n + 6 * left) room)
+length_fits least left room n = nat_le least n && (nat_le n room && attributes_fit (room - n) left)
+
+-- an attribute with the name, and so many more, fit the room behind the name
+unfoldable pub name_fits : List PoolEntry → ℕ → ℕ → ℕ → Bool
+name_fits pool left room name = nat_le (4 + least_content pool name + 6 * left) room && nat_le (room + 2) (longest * (left + 1))
 
 -- an attribute that is kept, behind its length
 abbrev pub kept_at : ℕ → ℕ → List ℕ → Result (RawAttribute × List ℕ) ℕ

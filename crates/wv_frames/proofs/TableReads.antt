@@ -12,7 +12,7 @@ use Rattle.wv_frames.specs.declared.raw.RawFrame.{RawFrame}
 use Rattle.wv_frames.specs.Spelling.{frame_bytes, table_bytes, IsLayout}
 use Rattle.wv_frames.specs.Layout.{BeginsTable, IsLayoutFault}
 use Rattle.wv_frames.specs.Reading.{count_at, only_frames, frames_in, table_at}
-use Rattle.wv_frames.proofs.Readers.{IsBytes, ok_is, Fill, Begun, Broken, Ended, Stopped, Taken, bind_ok}
+use Rattle.wv_frames.proofs.Readers.{IsBytes, ok_is, Begun, Broken, Ended, Stopped, Taken, bind_ok}
 use Rattle.wv_frames.proofs.Tags.{Short, CountRoom, count_takes}
 use Rattle.wv_frames.proofs.Counting.{count_short}
 use Rattle.wv_frames.proofs.FrameParts.{TableText, TableFill, table_alike, table_read}

@@ -4,6 +4,7 @@ use Rattle.std.proofs.Math.Seq.{take-length}
 use Rattle.wv_code.specs.Number.{number_from}
 use Rattle.wv_code.proofs.Numbers.{are_bytes, number_found, number_stops, numbers}
 use Rattle.wv_code.proofs.Insns.{insns_stop}
+use Rattle.wv_code.proofs.ContentReads.{content_text_read}
 use Rattle.wv_code.proofs.number.number_at.Goals as goal
 
 pub returns-in-Ok-clause-gives : goal.returns-in-Ok-clause-gives

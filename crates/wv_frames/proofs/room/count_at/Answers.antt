@@ -1,4 +1,4 @@
-use Rattle.std.proofs.Common.{ℕ, List, ◌+◌, ◌-◌, drop, length, Ok, ap, sym, ◌∙◌, arith}
+use Rattle.std.proofs.Common.{ℕ, List, ◌+◌, ◌-◌, length, Ok, ap, sym, ◌∙◌, arith}
 use Rattle.std.proofs.lemmas.List.{take_rest}
 use Rattle.wv_frames.proofs.Counting.{counted, not_counted, count_short, count_small}
 use Rattle.wv_frames.proofs.room.count_at.Goals as goal
