@@ -23,7 +23,7 @@ use Rattle.wv_code.specs.Number.{some_below, number_from}
 use Rattle.wv_code.specs.Fitting.{least_int, may_be, part_behind, part_fits, part_at, table_room, lookup_room}
 use Rattle.wv_frames.proofs.Readers.{IsBytes, Reads, Then, then, resized, renamed, Seen, seen, ok_is}
 use Rattle.wv_code.proofs.Sizes.{four_each, eight_each}
-use Rattle.wv_code.proofs.Numbers.{AreBytes, IsNumber, NumberRoom, numbers, some_with, some_true, true_some}
+use Rattle.wv_code.proofs.Numbers.{AreBytes, IsNumber, NumberRoom, Passes, numbers, some_with, some_true, true_some}
 use Rattle.wv_code.proofs.SwitchNumbers.{fits_parts, parts_fit, shift, more_targets, mag_cast}
 use Rattle.wv_code.proofs.RoomReads.{sized, mapped, bind_same, bind_tested, bind_seen}
 
@@ -52,6 +52,9 @@ number_spelled n text s =
 spelled_number : (n : ℕ) (text : List ℕ) → Unsigned w32 (2 ^ 32) n text → IsNumber 4 n text
 spelled_number n text s = subst (IsNumber 4 n) (sym s.1) (refl, (omega arith, (omega arith, (omega arith, (omega arith, tt)))), sym (be_is (to_be_bytes w32 n) refl) ∙ from_be_bytes-to_be_bytes_4 n s.0)
 
+number_small : (n : ℕ) (text : List ℕ) → IsNumber 4 n text → n < 256 ^ 4
+number_small n text s = omega (arith, (number_spelled n text s).0)
+
 number_signed : (n : ℕ) (text : List ℕ) → IsNumber 4 n text → Signed w32 (cast_signed w32 n) text
 number_signed n text s =
     let u = number_spelled n text s in
@@ -77,7 +80,7 @@ module _ (part : SwitchPart) (tail least : ℕ) (all : (n : ℕ) → n < 4294967
       let p = fits_parts part tail r.more (0 * 256 ^ 4 + k.0) k.2 in
       omega (arith, p.1, all (0 * 256 ^ 4 + k.0) (omega (arith, k.1)), r.sum)
 
-  pub part_reads : Reads (part_at part tail) (IsNumber 4) (λ n. 4 + least + tail ≤ n) (λ n m. part_fits part tail m n ≡ true)
+  pub part_reads : Reads (part_at part tail) (IsNumber 4) (λ n. 4 + least + tail ≤ n) (Passes 4 (part_fits part tail))
   part_reads = resized (NumberRoom 4 (part_fits part tail)) (λ n. 4 + least + tail ≤ n) room_to room_from (numbers 4 (part_fits part tail))
 
   -- as a signed number
@@ -85,11 +88,11 @@ module _ (part : SwitchPart) (tail least : ℕ) (all : (n : ℕ) → n < 4294967
       → Reads (λ missing bytes. part_at part tail missing bytes >>= λ x. Ok (cast_signed w32 x.0, x.1)) (Signed w32) (λ n. 4 + least + tail ≤ n) (λ z m. room z + tail ≤ m)
   signed_reads room same any = mapped (Signed w32) (λ z m. room z + tail ≤ m) (cast_signed w32) to from part_reads
     where
-      to : (n : ℕ) (text : List ℕ) (m : ℕ) → IsNumber 4 n text → part_fits part tail m n ≡ true → Signed w32 (cast_signed w32 n) text × (room (cast_signed w32 n) + tail ≤ m)
-      to n text m s e = (number_signed n text s, omega (arith, (fits_parts part tail m n e).1, same n))
+      to : (n : ℕ) (text : List ℕ) (m : ℕ) → IsNumber 4 n text → Passes 4 (part_fits part tail) n m → Signed w32 (cast_signed w32 n) text × (room (cast_signed w32 n) + tail ≤ m)
+      to n text m s e = (number_signed n text s, omega (arith, (fits_parts part tail m n e.1).1, same n))
 
-      from : (z : ℤ) (text : List ℕ) (m : ℕ) → Signed w32 z text → room z + tail ≤ m → (n : ℕ) × (z ≡ cast_signed w32 n) × IsNumber 4 n text × (part_fits part tail m n ≡ true)
-      from z text m s le = let h = signed_number z text s in (h.0, h.1, h.2, parts_fit part tail m h.0 (any h.0) (omega (arith, same h.0, le, ap room h.1)))
+      from : (z : ℤ) (text : List ℕ) (m : ℕ) → Signed w32 z text → room z + tail ≤ m → (n : ℕ) × (z ≡ cast_signed w32 n) × IsNumber 4 n text × Passes 4 (part_fits part tail) n m
+      from z text m s le = let h = signed_number z text s in (h.0, h.1, h.2, (number_small h.0 text h.2, parts_fit part tail m h.0 (any h.0) (omega (arith, same h.0, le, ap room h.1))))
 
 abbrev low_in : ℕ → ℕ → List ℕ → Result (ℤ × List ℕ) ℕ
 low_in tail missing bytes = part_at parts.Low tail missing bytes >>= λ x. Ok (cast_signed w32 x.0, x.1)
@@ -126,11 +129,11 @@ count_reads : (tail : ℕ) → Reads (count_in tail) (Unsigned w32 (2 ^ 31)) (λ
 unfolding part_behind
 count_reads tail = mapped (Unsigned w32 (2 ^ 31)) (λ n m. 8 * n + tail ≤ m) (λ n. n) to from (part_reads parts.Count tail 0 (λ n lt. omega arith) 0 (omega arith) refl refl)
   where
-    to : (n : ℕ) (text : List ℕ) (m : ℕ) → IsNumber 4 n text → part_fits parts.Count tail m n ≡ true → Unsigned w32 (2 ^ 31) n text × (8 * n + tail ≤ m)
-    to n text m s e = let p = fits_parts parts.Count tail m n e in ((omega (arith, ltb-true n (2 ^ 31) p.0), (number_spelled n text s).1), p.1)
+    to : (n : ℕ) (text : List ℕ) (m : ℕ) → IsNumber 4 n text → Passes 4 (part_fits parts.Count tail) n m → Unsigned w32 (2 ^ 31) n text × (8 * n + tail ≤ m)
+    to n text m s e = let p = fits_parts parts.Count tail m n e.1 in ((omega (arith, ltb-true n (2 ^ 31) p.0), (number_spelled n text s).1), p.1)
 
-    from : (n : ℕ) (text : List ℕ) (m : ℕ) → Unsigned w32 (2 ^ 31) n text → 8 * n + tail ≤ m → (k : ℕ) × (n ≡ k) × IsNumber 4 k text × (part_fits parts.Count tail m k ≡ true)
-    from n text m s le = (n, refl, spelled_number n text (omega (arith, s.0), s.1), parts_fit parts.Count tail m n (lt-ltb n (2 ^ 31) s.0) le)
+    from : (n : ℕ) (text : List ℕ) (m : ℕ) → Unsigned w32 (2 ^ 31) n text → 8 * n + tail ≤ m → (k : ℕ) × (n ≡ k) × IsNumber 4 k text × Passes 4 (part_fits parts.Count tail) k m
+    from n text m s le = (n, refl, spelled_number n text (omega (arith, s.0), s.1), (omega (arith, s.0), parts_fit parts.Count tail m n (lt-ltb n (2 ^ 31) s.0) le))
 
 -- ---- the operands
 

@@ -35,11 +35,12 @@ least_behind at form.Array = 1
 least_behind at form.MultiArray = 3
 least_behind at form.Wide = 3
 
--- an opcode and its form, and how many bytes stand behind an opcode behind `wide`
+-- an opcode with its form
 abbrev pub with_form : ℕ → Option Form → Option (ℕ × Form)
 with_form op None = None
 with_form op (Some f) = Some (op, f)
 
+-- how many bytes stand behind an opcode of this form behind `wide`
 abbrev pub behind_wide : Option Form → Option ℕ
 behind_wide (Some form.Local) = Some 2
 behind_wide (Some form.Increment) = Some 4
