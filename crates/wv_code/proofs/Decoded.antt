@@ -1,12 +1,11 @@
 -- What decoding answers is what is read from lists.
-use Rattle.std.proofs.Common.{◌≡◌, ℕ, ◌+◌, ◌-◌, ◌<◌, ◌≤◌, List, length, drop, Result, Ok, Err, refl, sym, ap, ◌∙◌, arith, inl, inr}
+use Rattle.std.proofs.Common.{◌≡◌, ℕ, ◌+◌, ◌-◌, ◌<◌, ◌≤◌, List, length, drop, Result, Ok, Err, refl, ap, ◌∙◌, arith, inl, inr}
 use Rattle.std.proofs.lemmas.Bool.{cases_lt}
-use Rattle.wv_pool.specs.Reading.{◌>>=◌}
 use Rattle.wv_insn.specs.declared.raw.Raw.{Raw}
 use Rattle.wv_insn.specs.Reading.{instruction_at}
-use Rattle.wv_insn.specs.Standing.{Stands, IsFirstFault}
+use Rattle.wv_insn.specs.Standing.{IsFirstFault}
 use Rattle.wv_insn.proofs.Directions.{shorter}
-use Rattle.wv_insn.proofs.Faults.{stands_read, read_stands, first_fault}
+use Rattle.wv_insn.proofs.Faults.{read_stands, first_fault}
 use Rattle.wv_insn.proofs.Readers.{IsBytes}
 use Rattle.wv_code.specs.Fitting.{room_at, insn_at}
 
@@ -33,13 +32,6 @@ module _ (code : List ℕ) (at : ℕ) (le : at ≤ length code) where
   pub fault_read : (p : ℕ) → IsBytes (drop at code) → IsFirstFault code at p → instruction_at at (drop at code) ≡ Err (length code - p)
   fault_read p fits f = by_result p fits f (instruction_at at (drop at code)) refl
 
-  pub fault_within : (p : ℕ) → IsFirstFault code at p → p ≤ length code
-  fault_within p f = omega (arith, f.to, le)
-
 pub room_passes : (at tail missing : ℕ) (bytes : List ℕ) (u : Unit {0}) → room_at at tail missing bytes ≡ Ok u → insn_at at tail missing bytes ≡ instruction_at at bytes
 unfolding insn_at
 room_passes at tail missing bytes u e = rw e refl
-
-pub room_fails : (at tail missing : ℕ) (bytes : List ℕ) (left : ℕ) → room_at at tail missing bytes ≡ Err left → insn_at at tail missing bytes ≡ Err left
-unfolding insn_at
-room_fails at tail missing bytes left e = rw e refl

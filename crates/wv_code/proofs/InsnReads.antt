@@ -1,5 +1,5 @@
 -- Reading an instruction that fits the room that is left of the code.
-use Rattle.std.proofs.Common.{◌≡◌, ℕ, suc, ◌+◌, ◌^◌, ◌<◌, ◌≤◌, Bool, true, false, cond, leb, List, [], ◌∷◌, ◌++◌, length, Option, Some, None, Result, Ok, Err, refl, sym, ap, ◌∙◌, ◌⊎◌, inl, inr, arith}
+use Rattle.std.proofs.Common.{◌≡◌, ℕ, suc, ◌+◌, ◌<◌, ◌≤◌, Bool, true, false, cond, leb, List, [], ◌∷◌, length, Option, Some, Result, Ok, Err, refl, ap, ◌∙◌, inl, inr, arith}
 use Rattle.std.proofs.lemmas.Bool.{cases_Bool}
 use Rattle.std.proofs.lemmas.List.{length-append}
 use Rattle.wv_base.specs.declared.form.Form.{Form}
@@ -8,13 +8,13 @@ use Rattle.wv_base.specs.Instructions.{form_of}
 use Rattle.wv_base.specs.Opcodes.{nop, iload}
 use Rattle.wv_pool.specs.Reading.{◌>>=◌}
 use Rattle.wv_insn.specs.declared.raw.Raw.{Raw}
-use Rattle.wv_insn.specs.Spelling.{padding, Spells}
+use Rattle.wv_insn.specs.Spelling.{Spells}
 use Rattle.wv_insn.specs.Reading.{opcode_at, wide_at, operands_at, instruction_at}
 use Rattle.wv_insn.proofs.Readers.{option_is}
 use Rattle.wv_insn.proofs.Operands.{Opcode, nop_is, iload_is, widened, Widened, Widths, widths_at, widths, Row, operands}
 use Rattle.wv_insn.proofs.Rows.{rows_spelled, spelled_rows}
 use Rattle.wv_code.specs.Fitting.{least_behind, with_form, byte_in, opcode_in, wide_room, operands_room, room_at, insn_at}
-use Rattle.wv_frames.proofs.Readers.{Reads, Then, then, resized, renamed, alike, ok_is}
+use Rattle.wv_frames.proofs.Readers.{Reads, Then, then, resized, renamed, alike}
 use Rattle.wv_code.proofs.RoomReads.{sized, byte_reads, chosen_ok, bind_same, bind_tested}
 use Rattle.wv_code.proofs.SwitchReads.{plain_then, then_plain, table_in, table_reads, table_alike, lookup_in, lookup_reads, lookup_alike}
 

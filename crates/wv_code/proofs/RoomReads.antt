@@ -1,12 +1,12 @@
 -- Readers that know the room they need.
-use Rattle.std.proofs.Common.{◌≡◌, ℕ, suc, ◌+◌, ◌-◌, ◌<◌, ◌≤◌, ◌^◌, Bool, true, false, cond, leb, List, [], ◌∷◌, ◌++◌, length, Option, Some, None, Result, Ok, Err, refl, sym, ap, subst, ◌∙◌, ◌⊎◌, inl, inr, arith}
-use Rattle.std.proofs.lemmas.Bool.{leb-true, leb-false, le-leb}
+use Rattle.std.proofs.Common.{◌≡◌, ℕ, suc, ◌+◌, ◌-◌, ◌<◌, ◌≤◌, ◌^◌, Bool, true, false, cond, leb, List, [], ◌∷◌, ◌++◌, length, Option, Some, None, Result, Ok, Err, refl, sym, ap, subst, ◌∙◌, inl, inr, arith}
+use Rattle.std.proofs.lemmas.Bool.{leb-true, le-leb}
 use Rattle.std.proofs.lemmas.List.{append-nil, length-append}
 use Rattle.wv_pool.specs.Reading.{◌>>=◌}
 use Rattle.wv_insn.proofs.Readers.{option_is, Meant}
 use Rattle.wv_insn.proofs.Readers as plain
-use Rattle.wv_code.specs.Fitting.{found_in, byte_in}
-use Rattle.wv_frames.proofs.Readers.{IsBytes, Fill, Begun, Broken, Ended, Stopped, Taken, Reads, Then, bind_ok, bind_err, ok_is}
+use Rattle.wv_code.specs.Fitting.{byte_in}
+use Rattle.wv_frames.proofs.Readers.{IsBytes, Begun, Stopped, Taken, Reads, bind_ok, bind_err, ok_is}
 
 -- ---- texts that are all equally long
 

@@ -1,10 +1,10 @@
 -- Reading the operands of switches that fit.
-use Rattle.std.proofs.Common.{◌≡◌, ℕ, zero, suc, ◌+◌, ◌-◌, ◌*◌, ◌/◌, ◌%◌, ◌^◌, ◌<◌, ◌≤◌, Bool, true, false, cond, leb, List, [], ◌∷◌, ◌++◌, length, get_or, take, drop, ℤ, pos, negsuc, Fits, Result, Ok, Err, refl, sym, ap, subst, ◌∙◌, arith}
+use Rattle.std.proofs.Common.{◌≡◌, ℕ, zero, suc, ◌+◌, ◌-◌, ◌*◌, ◌^◌, ◌<◌, ◌≤◌, Bool, true, false, cond, leb, List, [], ◌∷◌, length, get_or, ℤ, pos, negsuc, Fits, Result, Ok, Err, refl, sym, ap, subst, ◌∙◌, arith}
 use Rattle.std.specs.Prelude.{FitsSigned}
 use Rattle.std.specs.Int.{w32, from_be_bytes, to_be_bytes, cast_signed, cast_unsigned}
 use Rattle.std.specs.Int.Signed.{mag}
 use Rattle.std.proofs.Math.Facts.{sfits_to_z, Fits-of_z}
-use Rattle.std.proofs.lemmas.Bool.{cases_Bool, le-ltb, lt-leb, leb-true, ltb-true, lt-ltb}
+use Rattle.std.proofs.lemmas.Bool.{le-ltb, lt-leb, ltb-true, lt-ltb}
 use Rattle.std.proofs.lemmas.Int.{to_z-of_z, of_z-to_z}
 use Rattle.std.proofs.lemmas.Nat.{from_be_bytes-to_be_bytes_4}
 use Rattle.wv_room.specs.Number.{number_of}
@@ -12,7 +12,7 @@ use Rattle.wv_pool.specs.Reading.{◌>>=◌}
 use Rattle.wv_base.specs.declared.form.Form.TheVariants as form
 use Rattle.wv_insn.specs.declared.raw.Raw.{Raw}
 use Rattle.wv_insn.specs.declared.raw.Raw.TheVariants as raw
-use Rattle.wv_insn.specs.Spelling.{padding, targets, unsigned, signed, case, IsCase}
+use Rattle.wv_insn.specs.Spelling.{padding, targets, signed, case, IsCase}
 use Rattle.wv_insn.specs.Reading.{bytes_at, unsigned_at, signed_at, count_at, case_at, times, table_at, lookup_at}
 use Rattle.wv_insn.proofs.Readers as plain
 use Rattle.wv_insn.proofs.Numbers.{wide32, Bytes, some_bytes, Signed, Unsigned, int_signed, Listed, listed}

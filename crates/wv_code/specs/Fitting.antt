@@ -1,7 +1,7 @@
 -- The instruction that fits the room that is left of a method's code (JVM Specification 4.7.3 and chapter 6). The bytes go on
 -- behind the code, where at least `tail` bytes stand, and of all these the last ones may be missing. A fault is the number of
 -- bytes that are left from it on, 0 where the bytes end: the first byte with which no instruction of the room goes on.
-use Rattle.std.specs.Prelude.{ℕ, suc, ◌+◌, ◌*◌, ◌^◌, nat_le, nat_lt, ℤ, negsuc, Bool, true, false, ◌&&◌, if◌then◌else◌, List, [], ◌∷◌, length, Option, Some, None, Result, Ok, Err}
+use Rattle.std.specs.Prelude.{ℕ, suc, ◌+◌, ◌*◌, ◌^◌, nat_le, nat_lt, ℤ, negsuc, Bool, true, ◌&&◌, if◌then◌else◌, List, [], ◌∷◌, length, Option, Some, None, Result, Ok, Err}
 use Rattle.std.specs.Int.{w32, cast_signed}
 use Rattle.wv_base.specs.declared.form.Form.{Form}
 use Rattle.wv_base.specs.declared.form.Form.TheVariants as form

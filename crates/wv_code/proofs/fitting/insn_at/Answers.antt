@@ -1,9 +1,7 @@
 use Rattle.std.proofs.Common.{◌≡◌, List, ℕ, ◌+◌, ◌-◌, length, take, drop, Ok, sym, ap, ◌∙◌, arith}
 use Rattle.std.proofs.lemmas.List.{take_rest, drop-drop, get_or-drop}
-use Rattle.wv_insn.specs.declared.raw.Raw.{Raw}
-use Rattle.wv_insn.specs.Reading.{instruction_at}
 use Rattle.wv_insn.proofs.Faults.{stands_read}
-use Rattle.wv_code.specs.Fitting.{room_at, insn_at}
+use Rattle.wv_code.specs.Fitting.{room_at}
 use Rattle.wv_code.proofs.Decoded.{fault_read, room_passes}
 use Rattle.wv_code.proofs.fitting.insn_at.Goals as goal
 

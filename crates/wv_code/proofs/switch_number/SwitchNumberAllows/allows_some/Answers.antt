@@ -1,4 +1,4 @@
-use Rattle.std.proofs.Common.{◌≡◌, refl, sym, ◌∙◌, inl, inr, arith}
+use Rattle.std.proofs.Common.{refl, sym, ◌∙◌, inl, inr, arith}
 use Rattle.wv_code.proofs.SwitchNumbers.{tried, last_tried}
 use Rattle.wv_code.proofs.switch_number.SwitchNumberAllows.allows_some.Goals as goal
 use Rattle.wv_code.proofs.switch_number.SwitchNumberAllows.allows_some.Goals.{then-allows_value-via-then-allows_value, then-allows_value-via-else-allows_value+then-allows_value-2}
