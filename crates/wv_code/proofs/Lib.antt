@@ -11,6 +11,9 @@ pub mod Splits
 pub mod Numbers
 pub mod Insns
 pub mod SwitchNumbers
+pub mod RoomReads
+pub mod Decoded
+pub mod SwitchReads
 pub mod InsnReads
 pub mod Rooms
 pub mod ContentParts

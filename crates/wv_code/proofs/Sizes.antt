@@ -19,11 +19,11 @@ use Rattle.wv_code.specs.Meaning.{Means, widened}
 use Rattle.wv_code.proofs.Forms.{only}
 use Rattle.wv_code.proofs.Leading.{lead_lengths, case_lengths}
 
-four_each : (offsets : List ℤ) → length (flat_map (signed w32) offsets) ≡ 4 * length offsets
+pub four_each : (offsets : List ℤ) → length (flat_map (signed w32) offsets) ≡ 4 * length offsets
 four_each [] = refl
 four_each (o ∷ offsets) = omega (arith, length-append (signed w32 o) (flat_map (signed w32) offsets), four_each offsets)
 
-eight_each : (cases : List RawCase) → length (flat_map case cases) ≡ 8 * length cases
+pub eight_each : (cases : List RawCase) → length (flat_map case cases) ≡ 8 * length cases
 eight_each [] = refl
 eight_each (c ∷ cases) = omega (arith, length-append (case c) (flat_map case cases), eight_each cases)
 

@@ -1,7 +1,7 @@
 -- The instruction that fits the room that is left of a method's code (JVM Specification 4.7.3 and chapter 6). The bytes go on
 -- behind the code, where at least `tail` bytes stand, and of all these the last ones may be missing. A fault is the number of
 -- bytes that are left from it on, 0 where the bytes end: the first byte with which no instruction of the room goes on.
-use Rattle.std.specs.Prelude.{ℕ, suc, ◌+◌, ◌*◌, ◌^◌, nat_le, nat_lt, ℤ, negsuc, Bool, true, false, ◌&&◌, if◌then◌else◌, List, [], ◌∷◌, length, Option, Some, None, Result, Ok, Err}
+use Rattle.std.specs.Prelude.{ℕ, suc, ◌+◌, ◌*◌, ◌^◌, nat_le, nat_lt, ℤ, negsuc, Bool, true, ◌&&◌, if◌then◌else◌, List, [], ◌∷◌, length, Option, Some, None, Result, Ok, Err}
 use Rattle.std.specs.Int.{w32, cast_signed}
 use Rattle.wv_base.specs.declared.form.Form.{Form}
 use Rattle.wv_base.specs.declared.form.Form.TheVariants as form
@@ -9,7 +9,7 @@ use Rattle.wv_base.specs.Instructions.{form_of}
 use Rattle.wv_pool.specs.Reading.{◌>>=◌}
 use Rattle.wv_insn.specs.declared.raw.Raw.{Raw}
 use Rattle.wv_insn.specs.Spelling.{padding, targets}
-use Rattle.wv_insn.specs.Reading.{bytes_at, instruction_at}
+use Rattle.wv_insn.specs.Reading.{bytes_at, signed_at, instruction_at}
 use Rattle.wv_code.specs.declared.switch_number.SwitchPart.{SwitchPart}
 use Rattle.wv_code.specs.declared.switch_number.SwitchPart.TheVariants as parts
 use Rattle.wv_code.specs.Number.{number_at}
@@ -35,11 +35,12 @@ least_behind at form.Array = 1
 least_behind at form.MultiArray = 3
 least_behind at form.Wide = 3
 
--- an opcode and its form, and how many bytes stand behind an opcode behind `wide`
+-- an opcode with its form
 abbrev pub with_form : ℕ → Option Form → Option (ℕ × Form)
 with_form op None = None
 with_form op (Some f) = Some (op, f)
 
+-- how many bytes stand behind an opcode of this form behind `wide`
 abbrev pub behind_wide : Option Form → Option ℕ
 behind_wide (Some form.Local) = Some 2
 behind_wide (Some form.Increment) = Some 4
@@ -84,7 +85,7 @@ part_at part tail missing bytes = number_at 4 (part_fits part tail) missing byte
 unfoldable pub table_room : ℕ → ℕ → ℕ → List ℕ → Result (Unit {0}) ℕ
 table_room at tail missing bytes = do
   pad ← bytes_at (padding at) bytes
-  other ← bytes_at 4 pad.1
+  other ← signed_at w32 pad.1
   low ← part_at parts.Low tail missing other.1
   high ← part_at (parts.High (cast_signed w32 low.0)) tail missing low.1
   Ok tt
@@ -92,7 +93,7 @@ table_room at tail missing bytes = do
 unfoldable pub lookup_room : ℕ → ℕ → ℕ → List ℕ → Result (Unit {0}) ℕ
 lookup_room at tail missing bytes = do
   pad ← bytes_at (padding at) bytes
-  other ← bytes_at 4 pad.1
+  other ← signed_at w32 pad.1
   count ← part_at parts.Count tail missing other.1
   Ok tt
 

@@ -1,8 +1,9 @@
 //! The instruction that fits in the room that is left of the code.
 ghost use Rattle.std.specs.Prelude.{◌≡◌, ◌+◌, ◌<◌, ◌≤◌, ◌^◌, nat_le, length, drop, IfOk};
+ghost use Rattle.std.specs.Int.{w32};
 ghost use Rattle.wv_base.specs.Instructions.{form_of};
 ghost use Rattle.wv_insn.specs.Spelling.{padding};
-ghost use Rattle.wv_insn.specs.Reading.{bytes_at};
+ghost use Rattle.wv_insn.specs.Reading.{bytes_at, signed_at};
 ghost use Rattle.wv_code.specs.Answers.{Gives};
 ghost use Rattle.wv_code.specs.Behind.{IsBounded};
 ghost use Rattle.wv_code.specs.Fitting.{least_behind, behind_wide, part_at, opcode_in, table_room, lookup_room, wide_room, room_at, insn_at};
@@ -99,6 +100,19 @@ fn bytes_at(count: usize, bytes: &[u8]) -> Result<(&[u8], &[u8]), Stop>
     Ok(bytes.split_at(count))
 }
 
+/// The number of 32 bits at the front.
+fn int_at(bytes: &[u8]) -> Result<(i32, &[u8]), Stop>
+    ensures gives { Gives (λ x. (x.0, x.1.now)) result (signed_at w32 bytes.now) }
+    ensures shorter { IfOk result (λ x. length x.1.now ≤ length bytes.now) }
+{
+    if bytes.len() < 4 {
+        return Err(Stop::Left(0));
+    }
+    let (front, rest) = bytes.split_at(4);
+    let number = i32::from_be_bytes([front[0], front[1], front[2], front[3]]);
+    Ok((number, rest))
+}
+
 /// A number of a switch, where what stands behind it fits.
 fn part_at(part: SwitchPart, behind: Behind, bytes: &[u8]) -> Result<(u32, &[u8]), Stop>
     requires { IsBounded behind bytes.now }
@@ -120,7 +134,7 @@ fn table_room(at: usize, behind: Behind, bytes: &[u8]) -> Result<(), Stop>
     ensures { Gives (λ x. x) result (table_room at behind.tail behind.missing bytes.now) }
 {
     let (_pad, rest) = bytes_at(padding(at), bytes)?;
-    let (_other, rest) = bytes_at(4, rest)?;
+    let (_other, rest) = int_at(rest)?;
     let (low, rest) = part_at(SwitchPart::Low, behind, rest)?;
     let low = low.cast_signed();
     let (_high, _rest) = part_at(SwitchPart::High { low }, behind, rest)?;
@@ -133,7 +147,7 @@ fn lookup_room(at: usize, behind: Behind, bytes: &[u8]) -> Result<(), Stop>
     ensures { Gives (λ x. x) result (lookup_room at behind.tail behind.missing bytes.now) }
 {
     let (_pad, rest) = bytes_at(padding(at), bytes)?;
-    let (_other, rest) = bytes_at(4, rest)?;
+    let (_other, rest) = int_at(rest)?;
     let (_count, _rest) = part_at(SwitchPart::Count, behind, rest)?;
     Ok(())
 }
@@ -153,6 +167,7 @@ fn wide_room(behind: Behind, bytes: &[u8]) -> Result<(), Stop>
 }
 
 /// Stops at the first byte with which no instruction fits the room, as far as the room tells.
+#[tactic(auto, unfolding(crate::specs::Fitting::room_at))]
 fn check_room(at: usize, behind: Behind, bytes: &[u8]) -> Result<(), Stop>
     requires { IsBounded behind bytes.now }
     ensures { Gives (λ x. x) result (room_at at behind.tail behind.missing bytes.now) }
@@ -170,6 +185,7 @@ fn check_room(at: usize, behind: Behind, bytes: &[u8]) -> Result<(), Stop>
 /// behind the method's code, where at least `tail` bytes stand; of all these the last ones, so many
 /// as `missing` says, aren't there. It stops at the first byte with which no instruction goes on
 /// that fits the room before the tail.
+#[tactic(auto, unfolding(crate::specs::Fitting::insn_at))]
 pub(crate) fn insn_at<'a>(
     alloc: Global,
     code: &'a [u8],

@@ -29,4 +29,6 @@ pub use splitting::{RawCode, split_code};
 pub use writing::write_insns;
 
 #[cfg(test)]
+mod fitting_tests;
+#[cfg(test)]
 mod tests;

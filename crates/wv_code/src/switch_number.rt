@@ -1,5 +1,5 @@
 //! Numbers of switches that have to fit the room that is left of the code.
-ghost use Rattle.std.specs.Prelude.{◌≡◌, ◌<◌, ◌^◌, true};
+ghost use Rattle.std.specs.Prelude.{◌≡◌, ◌↔◌, ◌<◌, ◌≤◌, ◌^◌, true, IsTrue};
 ghost use Rattle.wv_code.specs.Fitting.{may_be, part_behind, part_fits};
 
 use wv_insn::targets;
@@ -28,6 +28,13 @@ pub(crate) struct SwitchNumber {
 
 /// The first of the numbers whose sign is set.
 const LEAST: u32 = 0x8000_0000;
+
+/// Whether the first of the numbers whose sign is set is between these two, behind the first.
+fn spans_sign(least: u32, most: u32) -> bool
+    ensures { IsTrue result ↔ (least < 2147483648) × (2147483648 ≤ most) }
+{
+    least < LEAST && LEAST <= most
+}
 
 impl SwitchNumber {
     /// Whether the number may have this value, whatever stands behind it.
@@ -63,8 +70,9 @@ impl Allows for SwitchNumber {
     }
 
     fn allows_some(&self, least: u32, most: u32) -> bool {
-        self.allows_value(least)
-            || self.allows_value(most)
-            || least < LEAST && LEAST <= most && self.allows_value(LEAST)
+        if self.allows_value(least) || self.allows_value(most) {
+            return true;
+        }
+        spans_sign(least, most) && self.allows_value(LEAST)
     }
 }
