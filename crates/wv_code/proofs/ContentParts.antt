@@ -91,7 +91,7 @@ pub record Span (k : ℕ) (Q : ℕ → Type 0) (n : ℕ) : Type 0 where
 abbrev pub CodeText : ℕ → Code → List ℕ → Type 0
 CodeText len code text = (length text ≡ len) × Lines 0 code.0 code.1 text
 
-nop_spelled : (at : ℕ) → Spells at (raws.Plain nop) (nop ∷ [])
+pub nop_spelled : (at : ℕ) → Spells at (raws.Plain nop) (nop ∷ [])
 nop_spelled at = record {
   pad = replicate (padding at) 0;
   padded = length-replicate {A = ℕ} (padding at) 0;

@@ -22,3 +22,6 @@ pub mod ContentReads
 pub mod ContentAnswers
 pub mod Times
 pub mod AttributeRooms
+pub mod TableRooms
+pub mod FrameFaults
+pub mod CodeLoop

@@ -218,9 +218,8 @@ fn frames_at(alloc: Global, name: u16, len: u32, bytes: &[u8]) -> Result<(RawAtt
             let frames = Items::from_vec(frames);
             Ok((RawAttribute::Frames { name, frames }, rest))
         }
-        Err(ClassFault::Layout { at } | ClassFault::Reference { at }) => {
-            Err(Stop::Left(bytes.len() - at))
-        }
+        Err(ClassFault::Layout { at }) => Err(Stop::Left(bytes.len() - at)),
+        Err(ClassFault::Reference { .. }) => unreachable!(),
         Err(ClassFault::Memory) => Err(Stop::Memory),
     }
 }

@@ -1,13 +1,9 @@
-use Rattle.std.proofs.Common.{◌≡◌, ◌+◌, ◌-◌, ◌≤◌, length, take}
-use Rattle.wv_code.proofs.Insns.{Lines}
+use Rattle.std.proofs.Common.{◌-◌, length}
+use Rattle.wv_code.proofs.CodeLoop.{Going}
 use Rattle.wv_code.proofs.content.code_at.Given as goal
 
-abbrev pub invariant-loop : goal.invariant-loop
-invariant-loop l = record {
-  lines : Lines 0 l.raws l.offsets (take l.at l.bytes);
-  within : l.at ≤ length l.bytes;
-  room : l.tail ≤ length l.bytes - l.at + l.missing;
-}
+abbrev pub invariant-loop-at : goal.invariant-loop-at
+invariant-loop-at l = Going l.bytes l.tail l.missing l.at l.raws l.offsets
 
-abbrev pub decreases-loop : goal.decreases-loop
-decreases-loop l = length l.bytes - l.at
+abbrev pub decreases-loop-at : goal.decreases-loop-at
+decreases-loop-at l = length l.bytes - l.at
