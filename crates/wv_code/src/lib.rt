@@ -1,20 +1,25 @@
 //! A method's code, and where its instructions stand (JVM Specification 4.7.3 and 4.9.1).
 #![tactic(auto)]
 
+mod body_constants;
 mod code_layout;
 mod constants;
+mod content_writing;
 mod entering;
 mod formed;
+mod formed_body;
 mod laws;
 mod laying;
 mod opcode;
 mod raw_body;
+mod raw_range;
 mod size;
 mod splitting;
 mod writing;
 
 pub use code_layout::{CodeLayout, Offsets};
 pub use formed::are_formed;
+pub use formed_body::is_formed;
 pub use laws::{one_layout, size_of_what_is_spelled};
 pub use laying::layout;
 pub use raw_body::{RawAttribute, RawBody, RawRange};

@@ -1,0 +1,44 @@
+-- How a body is written.
+use Rattle.std.specs.Prelude.{◌≡◌, ℕ, ◌++◌, ◌<◌, List, length}
+use Rattle.std.specs.List.{flat_map}
+use Rattle.wv_base.specs.declared.class_file.PoolEntry.{PoolEntry}
+use Rattle.wv_base.specs.declared.class_file.Attribute.{Attribute}
+use Rattle.wv_base.specs.declared.class_file.Body.{Body}
+use Rattle.wv_base.specs.declared.frame.VType.{VType}
+use Rattle.wv_base.specs.declared.frame.VType.TheVariants as vtypes
+use Rattle.wv_base.specs.declared.frame.Frame.{Frame}
+use Rattle.wv_base.specs.declared.frame.FrameAt.{FrameAt}
+use Rattle.wv_base.specs.declared.insn.Insn.{Insn}
+use Rattle.wv_pool.specs.Entries.{number_bytes}
+use Rattle.wv_frames.specs.Whole.{Spells as SpellsFrames}
+use Rattle.wv_code.specs.declared.raw_body.RawRange.{RawRange}
+use Rattle.wv_code.specs.Code.{AreWidened}
+use Rattle.wv_code.specs.Content.{length_bytes, range_bytes, named_bytes}
+use Rattle.wv_code.specs.Body.{AreFramesOf, Spells}
+
+-- an attribute, whatever its name is
+abbrev pub written_bytes : Attribute → List ℕ
+written_bytes a = named_bytes a.name a.content
+
+-- the sizes, the code, the exception table and the attributes (4.7.3)
+abbrev pub written_body : Body → List ℕ → List RawRange → List Attribute → List ℕ
+written_body body code ranges attributes = number_bytes body.max_stack ++ (number_bytes body.max_locals ++ (length_bytes (length code) ++ (code ++
+    (number_bytes (length ranges) ++ (flat_map range_bytes ranges ++ (number_bytes (length attributes) ++ flat_map written_bytes attributes))))))
+
+-- a type whose object was made by one of so many instructions
+abbrev pub IsWithin : ℕ → VType → Type 0
+IsWithin count (vtypes.Uninitialized index) = index < count
+IsWithin count _ = Unit {0}
+
+-- the bytes are the content of a StackMapTable with these frames, with offsets in place of indices
+pub record WritesFrames (pool : List PoolEntry) (offsets : List ℕ) (frames : List FrameAt) (first : Frame) (bytes : List ℕ) : Type 0 where
+  pub spelled : List FrameAt
+  pub frames_of : AreFramesOf offsets spelled frames
+  pub table : SpellsFrames pool first bytes spelled
+
+-- The bytes are the content of a Code attribute that means the body, in a method with this start frame: ldc_w stands in
+-- place of an ldc whose constant has no number of one byte.
+pub record WritesBody (pool : List PoolEntry) (first : Frame) (body : Body) (bytes : List ℕ) : Type 0 where
+  pub others : List Insn
+  pub widened_are : AreWidened pool body.insns others
+  pub spelled : Spells pool first bytes (record body { insns = others })
