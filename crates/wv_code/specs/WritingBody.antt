@@ -1,6 +1,6 @@
 -- How a body is written.
-use Rattle.std.specs.Prelude.{◌≡◌, ℕ, ◌++◌, ◌<◌, List, length}
-use Rattle.std.specs.List.{flat_map}
+use Rattle.std.specs.Prelude.{◌≡◌, ℕ, ◌++◌, ◌^◌, ◌<◌, List, length}
+use Rattle.std.specs.List.{flat_map, AllByRecursion}
 use Rattle.wv_base.specs.declared.class_file.PoolEntry.{PoolEntry}
 use Rattle.wv_base.specs.declared.class_file.Attribute.{Attribute}
 use Rattle.wv_base.specs.declared.class_file.Body.{Body}
@@ -20,10 +20,27 @@ use Rattle.wv_code.specs.Body.{AreFramesOf, Spells}
 abbrev pub written_bytes : Attribute → List ℕ
 written_bytes a = named_bytes a.name a.content
 
--- the sizes, the code, the exception table and the attributes (4.7.3)
+-- an attribute has bytes, of which its length has room for as many
+abbrev pub HasRoom : Attribute → Type 0
+HasRoom a = length a.content < 2 ^ 32
+
+abbrev pub HasBytes : Attribute → Type 0
+HasBytes a = AllByRecursion (λ b. b < 256) a.content
+
+-- the sizes, and the code with its length (4.7.3)
+abbrev pub written_code : Body → List ℕ → List ℕ
+written_code body code = number_bytes body.max_stack ++ (number_bytes body.max_locals ++ (length_bytes (length code) ++ code))
+
+-- lists with their counts
+abbrev pub written_ranges : List RawRange → List ℕ
+written_ranges ranges = number_bytes (length ranges) ++ flat_map range_bytes ranges
+
+abbrev pub written_attributes : List Attribute → List ℕ
+written_attributes attributes = number_bytes (length attributes) ++ flat_map written_bytes attributes
+
+-- the parts of a Code attribute's content
 abbrev pub written_body : Body → List ℕ → List RawRange → List Attribute → List ℕ
-written_body body code ranges attributes = number_bytes body.max_stack ++ (number_bytes body.max_locals ++ (length_bytes (length code) ++ (code ++
-    (number_bytes (length ranges) ++ (flat_map range_bytes ranges ++ (number_bytes (length attributes) ++ flat_map written_bytes attributes))))))
+written_body body code ranges attributes = written_code body code ++ (written_ranges ranges ++ written_attributes attributes)
 
 -- a type whose object was made by one of so many instructions
 abbrev pub IsWithin : ℕ → VType → Type 0
