@@ -8,3 +8,6 @@ pub mod Sizes
 pub mod Follows
 pub mod Written
 pub mod Splits
+pub mod BodyConstants
+pub mod RawRanges
+pub mod OffsetFrames

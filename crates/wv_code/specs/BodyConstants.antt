@@ -32,9 +32,13 @@ abbrev pub table_names : List FrameAt → List Const
 table_names [] = []
 table_names (one ∷ others) = constants.Utf8 (codes "StackMapTable") ∷ []
 
+-- the classes of the frames, and the name of their attribute
+abbrev pub table_constants : List FrameAt → List Const
+table_constants frames = flat_map frame_constants frames ++ table_names frames
+
 -- the constants that stand outside the code
 abbrev pub other_constants : Body → List Const
-other_constants body = flat_map range_constants body.ranges ++ (flat_map frame_constants body.frames ++ table_names body.frames)
+other_constants body = flat_map range_constants body.ranges ++ table_constants body.frames
 
 -- the constants of the instructions, of the ranges and of the frames
 abbrev pub body_constants : Body → List Const

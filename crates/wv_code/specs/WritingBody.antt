@@ -1,5 +1,5 @@
 -- How a body is written.
-use Rattle.std.specs.Prelude.{◌≡◌, ℕ, ◌++◌, ◌^◌, ◌<◌, List, length}
+use Rattle.std.specs.Prelude.{◌≡◌, ℕ, ◌++◌, ◌^◌, ◌<◌, List, [], ◌∷◌, length}
 use Rattle.std.specs.List.{flat_map, AllByRecursion}
 use Rattle.wv_base.specs.declared.class_file.PoolEntry.{PoolEntry}
 use Rattle.wv_base.specs.declared.class_file.Attribute.{Attribute}
@@ -13,7 +13,7 @@ use Rattle.wv_pool.specs.Entries.{number_bytes}
 use Rattle.wv_frames.specs.Whole.{Spells as SpellsFrames}
 use Rattle.wv_code.specs.declared.raw_body.RawRange.{RawRange}
 use Rattle.wv_code.specs.Code.{AreWidened}
-use Rattle.wv_code.specs.Content.{length_bytes, range_bytes, named_bytes}
+use Rattle.wv_code.specs.Content.{length_bytes, range_bytes, named_bytes, NamesFrames}
 use Rattle.wv_code.specs.Body.{AreFramesOf, Spells}
 
 -- an attribute, whatever its name is
@@ -47,11 +47,21 @@ abbrev pub IsWithin : ℕ → VType → Type 0
 IsWithin count (vtypes.Uninitialized index) = index < count
 IsWithin count _ = Unit {0}
 
+-- a frame at one of so many instructions
+abbrev pub AreWithin : ℕ → FrameAt → Type 0
+AreWithin count one = (one.at < count) × AllByRecursion (IsWithin count) one.frame.locals × AllByRecursion (IsWithin count) one.frame.stack
+
 -- the bytes are the content of a StackMapTable with these frames, with offsets in place of indices
 pub record WritesFrames (pool : List PoolEntry) (offsets : List ℕ) (frames : List FrameAt) (first : Frame) (bytes : List ℕ) : Type 0 where
   pub spelled : List FrameAt
   pub frames_of : AreFramesOf offsets spelled frames
   pub table : SpellsFrames pool first bytes spelled
+
+-- the attribute of these frames, if there are any
+abbrev pub WritesTables : List PoolEntry → List ℕ → List FrameAt → Frame → List Attribute → Type 0
+WritesTables pool offsets [] first [] = Unit {0}
+WritesTables pool offsets (one ∷ others) first (a ∷ []) = (a.name < 2 ^ 16) × NamesFrames pool a.name × HasRoom a × WritesFrames pool offsets (one ∷ others) first a.content
+WritesTables pool offsets _ first _ = ⊥
 
 -- The bytes are the content of a Code attribute that means the body, in a method with this start frame: ldc_w stands in
 -- place of an ldc whose constant has no number of one byte.

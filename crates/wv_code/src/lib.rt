@@ -2,6 +2,7 @@
 #![tactic(auto)]
 
 mod body_constants;
+mod body_writing;
 mod code_layout;
 mod constants;
 mod content_writing;
@@ -10,6 +11,7 @@ mod formed;
 mod formed_body;
 mod laws;
 mod laying;
+mod offset_frame;
 mod opcode;
 mod raw_body;
 mod raw_range;
@@ -17,6 +19,7 @@ mod size;
 mod splitting;
 mod writing;
 
+pub use body_writing::write_code;
 pub use code_layout::{CodeLayout, Offsets};
 pub use formed::are_formed;
 pub use formed_body::is_formed;

@@ -51,7 +51,8 @@ fn raw_range(range: &ExceptionRange, layout: &CodeLayout, pool: &Pool) -> Result
     requires few { AllByRecursion (λ o. o ≤ 65535) layout.now.offsets }
     requires small { layout.now.len ≤ 65535 }
     requires named { AllByRecursion (Named pool.now) (range_constants range.now) }
-    ensures { IfOk result (λ raw. IsRangeOf pool.now layout.now.offsets layout.now.len raw range.now) }
+    ensures of { IfOk result (λ raw. IsRangeOf pool.now layout.now.offsets layout.now.len raw range.now) }
+    ensures fits { IfOk result IsRange }
 {
     Ok(RawRange {
         start: start_at(layout, range.start) as u16,
