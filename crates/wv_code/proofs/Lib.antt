@@ -11,3 +11,7 @@ pub mod Splits
 pub mod BodyConstants
 pub mod RawRanges
 pub mod OffsetFrames
+pub mod SoundInsns
+pub mod SoundFrames
+pub mod BodyWritten
+pub mod BodySpelled

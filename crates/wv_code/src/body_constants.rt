@@ -5,6 +5,7 @@ ghost use Rattle.wv_pool.specs.declared.add.PoolFault.TheVariants as faults;
 ghost use Rattle.wv_pool.specs.Adding.{Keeps};
 ghost use Rattle.wv_pool.specs.Allowed.{IsAllowed};
 ghost use Rattle.wv_pool.specs.Numbers.{Named};
+ghost use Rattle.wv_pool.specs.References.{IsPool};
 ghost use Rattle.wv_code.specs.BodyConstants.{range_constants, type_constants, frame_constants, table_names, other_constants};
 ghost use Rattle.wv_code.specs.Entering.{Enters, MeetsFull};
 
@@ -54,7 +55,7 @@ fn push_name(alloc: Global, frames: &[FrameAt], out: &mut Items<Const>) -> Resul
 }
 
 /// The constants that ranges and frames name.
-pub(crate) fn other_constants(alloc: Global, body: &Body) -> Result<Items<Const>, Memory>
+fn other_constants(alloc: Global, body: &Body) -> Result<Items<Const>, Memory>
     ensures { IfOk result (λ found. found ≡ other_constants body.now) }
 {
     let mut found = Items::new(alloc);
@@ -65,7 +66,7 @@ pub(crate) fn other_constants(alloc: Global, body: &Body) -> Result<Items<Const>
 }
 
 /// Puts the constants into the pool.
-pub(crate) fn enter_each(constants: &[Const], pool: &mut Pool) -> Result<(), PoolFault>
+fn enter_each(constants: &[Const], pool: &mut Pool) -> Result<(), PoolFault>
     requires { AllByRecursion IsAllowed constants.now }
     ensures kept { Keeps pool.old pool.new }
     ensures entered { OnOk result (Enters pool.old constants.now pool.new) }
@@ -76,4 +77,19 @@ pub(crate) fn enter_each(constants: &[Const], pool: &mut Pool) -> Result<(), Poo
         pool.add(constant)?;
     }
     Ok(())
+}
+
+/// Puts the constants that ranges and frames name into the pool.
+pub(crate) fn enter_others(alloc: Global, body: &Body, pool: &mut Pool) -> Result<(), PoolFault>
+    requires { AllByRecursion IsAllowed (other_constants body.now) }
+    ensures sound { IsPool pool.old }
+    ensures kept { Keeps pool.old pool.new }
+    ensures entered { OnOk result (Enters pool.old (other_constants body.now) pool.new) }
+    ensures named { OnOk result (AllByRecursion (Named pool.new) (other_constants body.now)) }
+    ensures full { IfErr result (λ e. e ≡ faults.Full → MeetsFull pool.old (other_constants body.now)) }
+{
+    // The entries as they are: each number names what its place needs.
+    let _entries = pool.entries();
+    let constants = other_constants(alloc, body)?;
+    enter_each(constants.as_slice(), pool)
 }

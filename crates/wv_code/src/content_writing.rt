@@ -78,10 +78,12 @@ fn put_table(out: &mut Bytes, ranges: &[RawRange]) -> Result<(), Memory>
 /// Writes the sizes and the code, with its length.
 fn put_code(out: &mut Bytes, body: &Body, code: &Bytes) -> Result<(), Memory>
     requires { length code.now < 2 ^ 32 }
-    ensures { OnOk result (out.new ≡ out.old ++ written_code body.now code.now) }
+    ensures put { OnOk result (out.new ≡ out.old ++ written_code body.now code.now) }
+    ensures sizes { (body.now.max_stack < 2 ^ 16) × (body.now.max_locals < 2 ^ 16) }
 {
-    put_number(out, body.max_stack)?;
-    put_number(out, body.max_locals)?;
+    let (stack, locals) = (body.max_stack, body.max_locals);
+    put_number(out, stack)?;
+    put_number(out, locals)?;
     put_length(out, code.len() as u32)?;
     out.extend(code.as_slice())
 }
@@ -113,6 +115,7 @@ pub(crate) fn body_to_bytes(
     requires kept { AllByRecursion HasRoom body.now.kept }
     requires tables { AllByRecursion HasRoom tables.now }
     ensures written { IfOk result (λ bytes. bytes ≡ written_body body.now code.now ranges.now (body.now.kept ++ tables.now)) }
+    ensures sizes { IfOk result (λ _. (body.now.max_stack < 2 ^ 16) × (body.now.max_locals < 2 ^ 16)) }
     ensures bytes { IfOk result (λ _. AllByRecursion HasBytes body.now.kept) }
 {
     let mut out = Bytes::new(alloc);
