@@ -271,3 +271,17 @@ pub kept_get : (kept : List Attribute) (more : List RawAttribute) (k name : ℕ)
 kept_get [] more k name fs e = (k, omega arith, e)
 kept_get (a ∷ kept) more zero name fs e = absurd cc
 kept_get (a ∷ kept) more (suc k) name fs e = let found = kept_get kept more k name fs e in (found.0, omega (arith, found.1), found.2)
+
+-- what can be written still can where the pool has grown
+pub formed_on : (old new : List PoolEntry) (body : Body) → Keeps old new → IsFormedBody old body → IsFormedBody new body
+formed_on old new body grown formed = record {
+  insns = formed.insns;
+  some = formed.some;
+  few = formed.few;
+  ranges = formed.ranges;
+  frames = formed.frames;
+  kept = (
+    formed.kept.0,
+    AllByRecursion-map (IsFormedKept old) (IsFormedKept new) body.kept (λ a h. (omega (arith, longer old new grown, h.0), names_none old new a.name grown h.0 h.1, h.2)) formed.kept.1,
+  );
+}

@@ -69,6 +69,7 @@ load_widened op words long h = by_test (op == ldc) long refl
   where
     one_word : op ≡ ldc → words ≡ 1
     one_word is = elim h [ inl one ↦ one.1 | inr two ↦ absurd (omega (arith, is, two.0)) ]
+
     by_test : (t l : Bool) → (op == ldc) ≡ t → LoadsWords (if t && l then ldc_w else op) words
     by_test true true e = inl (inr refl, one_word (eqb-true op ldc e))
     by_test true false e = h

@@ -32,10 +32,12 @@ fn is_formed_range(range: &ExceptionRange, count: usize) -> Result<bool, Memory>
     ensures { IfOk result (λ is. IsTrue is ↔ IsFormedRange count range.now) }
 {
     let caught = is_caught(&range.catch)?;
-    Ok(caught
-        && range.start < range.end
-        && range.end as usize <= count
-        && (range.handler as usize) < count)
+    Ok(
+        caught
+            && range.start < range.end
+            && range.end as usize <= count
+            && (range.handler as usize) < count,
+    )
 }
 
 fn are_formed_ranges(ranges: &[ExceptionRange], count: usize) -> Result<bool, Memory>
@@ -174,7 +176,9 @@ pub fn is_formed(body: &Body, pool: &Pool) -> Result<bool, Memory>
     if insns.is_empty() || insns.len() >= 0x8000_0000 || !are_formed_kept(body, pool) {
         return Ok(false);
     }
-    Ok(are_formed(insns)?
-        && are_formed_ranges(body.ranges.as_slice(), insns.len())?
-        && are_formed_frames(body.frames.as_slice(), insns)?)
+    Ok(
+        are_formed(insns)?
+            && are_formed_ranges(body.ranges.as_slice(), insns.len())?
+            && are_formed_frames(body.frames.as_slice(), insns)?,
+    )
 }

@@ -23,11 +23,13 @@ pub use body_writing::write_code;
 pub use code_layout::{CodeLayout, Offsets};
 pub use formed::are_formed;
 pub use formed_body::is_formed;
-pub use laws::{one_layout, size_of_what_is_spelled};
+pub use laws::{formed_stays, one_layout, size_of_what_is_spelled};
 pub use laying::layout;
 pub use raw_body::{RawAttribute, RawBody, RawRange};
 pub use splitting::{RawCode, split_code};
 pub use writing::write_insns;
 
+#[cfg(test)]
+mod body_tests;
 #[cfg(test)]
 mod tests;

@@ -15,7 +15,9 @@ use crate::code_layout::CodeLayout;
 use crate::laying::offset_at;
 use crate::writing::number_of;
 use std::alloc::Global;
-use wv_base::{Attribute, Body, Bytes, Const, Frame, FrameAt, FrameList, Items, Memory, Name, VType};
+use wv_base::{
+    Attribute, Body, Bytes, Const, Frame, FrameAt, FrameList, Items, Memory, Name, VType,
+};
 use wv_frames::write_frames;
 use wv_pool::{Pool, PoolFault};
 

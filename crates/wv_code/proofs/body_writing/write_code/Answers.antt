@@ -13,11 +13,6 @@ use Rattle.wv_code.proofs.body_writing.write_code.Goals as goal
 pub enter_others-requires : goal.enter_others-requires
 enter_others-requires c = others_allowed c.args.pool.now c.args.body.now c.requires.formed
 
-pub returns-in_err-code-clause-full : goal.returns-in_err-code-clause-full
-returns-in_err-code-clause-full c =
-    let p = err_from_is_err_and c.from_residual.result c.from_residual.ensures.1 in
-    rw (p.1, p.2) (λ e. full_first c.args.pool.now (all_constants c.args.body.now.insns) (other_constants c.args.body.now) (rw c.as_slice.ensures at (c.in_err-code.ensures.full e)))
-
 pub returns-in_err-enter_others-clause-older : goal.returns-in_err-enter_others-clause-older
 returns-in_err-enter_others-clause-older c = λ n d h. later c.write_insns.new.pool c.enter_others.new.pool n d c.in_err-enter_others.ensures.kept (c.in_ok-code.ensures.older n d h)
 
@@ -38,3 +33,16 @@ content-requires-clause-code c =
     (λ n d h. later c.write_insns.new.pool c.enter_others.new.pool n d c.in_ok-enter_others.ensures.kept h)
     (AllByRecursion-map (Named c.args.pool.now) (Named c.write_insns.new.pool) (short_constants c.args.body.now.insns) (λ d h. (h.0, c.in_ok-code.ensures.older h.0 d h.1)) c.requires.named)
     (rw c.as_slice.ensures at c.in_ok-code.ensures.code)
+
+pub returns-in_err-content-clause-older : goal.returns-in_err-content-clause-older
+returns-in_err-content-clause-older c = λ n d h.
+    later c.enter_others.new.pool c.content.new.pool n d c.in_err-content.ensures.kept (later c.write_insns.new.pool c.enter_others.new.pool n d c.in_ok-enter_others.ensures.kept (c.in_ok-code.ensures.older n d h))
+
+pub returns-clause-older : goal.returns-clause-older
+returns-clause-older c = λ n d h.
+    later c.enter_others.new.pool c.content.new.pool n d c.in_ok-content.ensures.kept (later c.write_insns.new.pool c.enter_others.new.pool n d c.in_ok-enter_others.ensures.kept (c.in_ok-code.ensures.older n d h))
+
+pub returns-clause-entered : goal.returns-clause-entered
+returns-clause-entered c =
+    rw c.in_ok-content.ensures.same
+    (enters_then c.args.pool.now c.write_insns.new.pool c.enter_others.new.pool (all_constants c.args.body.now.insns) (other_constants c.args.body.now) (rw c.as_slice.ensures at c.in_ok-code.ensures.entered) c.in_ok-enter_others.ensures.entered)
