@@ -25,3 +25,10 @@ pub mod AttributeRooms
 pub mod TableRooms
 pub mod FrameFaults
 pub mod CodeLoop
+pub mod BodyConstants
+pub mod RawRanges
+pub mod OffsetFrames
+pub mod SoundInsns
+pub mod SoundFrames
+pub mod BodyWritten
+pub mod BodySpelled

@@ -123,11 +123,11 @@ all_encoded pool insns layout k code low high laid e =
 
 -- ---- a layout stays one where constants are added
 
-all_front : {X : Type 0} (P : X → Type 0) (xs ys : List X) → AllByRecursion P (xs ++ ys) → AllByRecursion P xs
+pub all_front : {X : Type 0} (P : X → Type 0) (xs ys : List X) → AllByRecursion P (xs ++ ys) → AllByRecursion P xs
 all_front P [] ys h = tt
 all_front P (x ∷ xs) ys h = (h.0, all_front P xs ys h.1)
 
-all_back : {X : Type 0} (P : X → Type 0) (xs ys : List X) → AllByRecursion P (xs ++ ys) → AllByRecursion P ys
+pub all_back : {X : Type 0} (P : X → Type 0) (xs ys : List X) → AllByRecursion P (xs ++ ys) → AllByRecursion P ys
 all_back P [] ys h = h
 all_back P (x ∷ xs) ys h = all_back P xs ys h.1
 
@@ -137,7 +137,7 @@ constants_at P f [] k d lt h = absurd (omega arith)
 constants_at P f (x ∷ xs) zero d lt h = all_front P (f x) (flat_map f xs) h
 constants_at P f (x ∷ xs) (suc k) d lt h = constants_at P f xs k d (omega arith) (all_back P (f x) (flat_map f xs) h)
 
-long_kept : (old new : List PoolEntry) (c : Const) (long : Bool) → AllByRecursion (IsSound old) old → Keeps old new → ((n : ℕ) (c : Const) → constant_of old n ≡ Some c → constant_of new n ≡ Some c) → Named old c → IsLong old c long → IsLong new c long
+pub long_kept : (old new : List PoolEntry) (c : Const) (long : Bool) → AllByRecursion (IsSound old) old → Keeps old new → ((n : ℕ) (c : Const) → constant_of old n ≡ Some c → constant_of new n ≡ Some c) → Named old c → IsLong old c long → IsLong new c long
 long_kept old new c false sound kept older named h = (h.0, older h.0 c h.1, h.2)
 long_kept old new c true sound kept older named h = λ short. elim (cases_lt (length old) short.0) [
   | inl lt ↦ let le : named.0 ≤ length old = number_in old named.0 c named.1 in let few : short.0 < 256 = short.2 in h (named.0, named.1, omega arith)

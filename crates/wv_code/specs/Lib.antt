@@ -15,3 +15,6 @@ pub mod Breaks
 pub mod Body
 pub mod Fitting
 pub mod Behind
+pub mod FormedBody
+pub mod BodyConstants
+pub mod WritingBody

@@ -73,7 +73,7 @@ pub(crate) fn enter_all(insns: &[Insn], pool: &mut Pool) -> Result<(), PoolFault
 }
 
 /// The least number of a constant that the pool names.
-fn number_of(pool: &Pool, constant: &Const) -> u16
+pub(crate) fn number_of(pool: &Pool, constant: &Const) -> u16
     requires { Named pool.now constant.now }
     ensures { IsLeast pool.now constant.now result }
 {
