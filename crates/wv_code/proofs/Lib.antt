@@ -8,3 +8,4 @@ pub mod Sizes
 pub mod Follows
 pub mod Written
 pub mod Splits
+pub mod Starts

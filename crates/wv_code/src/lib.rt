@@ -5,6 +5,7 @@ mod code_layout;
 mod constants;
 mod entering;
 mod formed;
+mod index;
 mod laws;
 mod laying;
 mod opcode;
