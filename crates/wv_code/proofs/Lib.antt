@@ -9,3 +9,5 @@ pub mod Follows
 pub mod Written
 pub mod Splits
 pub mod Starts
+pub mod LeastPlaces
+pub mod NamedOperands

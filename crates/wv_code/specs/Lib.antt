@@ -10,3 +10,6 @@ pub mod Splitting
 pub mod Content
 pub mod Breaks
 pub mod Body
+pub mod Least
+pub mod Operands
+pub mod Checking
