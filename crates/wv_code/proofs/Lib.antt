@@ -11,3 +11,4 @@ pub mod Splits
 pub mod Starts
 pub mod LeastPlaces
 pub mod NamedOperands
+pub mod InsnPlaces

@@ -25,6 +25,7 @@ pub record AreStarts (code : RawCode) (len : ℕ) : Type 0 where
   pub ascend : IsStrictlyIncreasing code.offsets
   pub many : length code.raws ≡ length code.offsets
   pub within : AllByRecursion (λ o. o < len) code.offsets
+  pub typed : AllByRecursion IsTyped code.raws
   pub instructions : AllByRecursion IsInstruction code.raws
 
 -- the key is above the one before it

@@ -1,9 +1,11 @@
 //! The first operand of an instruction that breaks what it must meet.
-ghost use Rattle.std.specs.Prelude.{◌≡◌, ◌↔◌, ℕ, ◌+◌, ◌*◌, ◌<◌, ◌≤◌, ◌≤ℤ◌, ◌^◌, length, IsTrue, slice_get, slice_index, Some};
+ghost use Rattle.std.specs.Prelude.{◌≡◌, ◌↔◌, ℕ, ◌+◌, ◌*◌, ◌<◌, ◌≤◌, ◌≤ℤ◌, ◌^◌, List, length, FitsSigned, IsTrue, slice_get, slice_index, Some};
+ghost use Rattle.std.specs.Int.{w32};
 ghost use Rattle.std.specs.List.{AllByRecursion};
+ghost use Rattle.wv_base.specs.declared.class_file.PoolEntry.{PoolEntry};
 ghost use Rattle.std.specs.List.Sorted.{IsStrictlyIncreasing};
 ghost use Rattle.wv_insn.specs.declared.raw.Raw.TheVariants as raws;
-ghost use Rattle.wv_insn.specs.Spelling.{padding, targets, IsInstruction};
+ghost use Rattle.wv_insn.specs.Spelling.{padding, targets, IsCase, IsTyped, IsInstruction};
 ghost use Rattle.wv_pool.specs.References.{IsPool};
 ghost use Rattle.wv_code.specs.Breaks.{InsnBreaks};
 ghost use Rattle.wv_code.specs.Least.{IsLeastOf, Broken, Behind, InItems};
@@ -21,6 +23,7 @@ use wv_pool::Pool;
 /// The first of a switch's distances, which stand from `base` on, that leads to no instruction.
 fn targets_break(offsets: &[u32], at: u32, distances: &[i32], base: usize) -> Option<usize>
     requires ascend { IsStrictlyIncreasing offsets.now }
+    requires typed { AllByRecursion (FitsSigned w32) distances.now }
     requires few { length distances.now ≤ 2 ^ 32 }
     requires low { base < 2 ^ 40 }
     ensures { IsLeastOf (InItems distances.now (TargetBreaks offsets.now at base)) result }
@@ -44,6 +47,7 @@ fn is_above(cases: &[RawCase], index: usize) -> bool
 /// key before it, or leads to no instruction.
 fn cases_break(offsets: &[u32], at: u32, cases: &[RawCase], base: usize) -> Option<usize>
     requires ascend { IsStrictlyIncreasing offsets.now }
+    requires typed { AllByRecursion IsCase cases.now }
     requires few { length cases.now ≤ 2 ^ 32 }
     requires low { base < 2 ^ 40 }
     ensures { IsLeastOf (InItems cases.now (CaseBreaks offsets.now at cases.now base)) result }
@@ -88,17 +92,67 @@ fn switch_place(at: u32) -> usize
     4 - at as usize % 4
 }
 
+fn is_ordered(low: i32, high: i32) -> bool
+    ensures { IsTrue result ↔ (low ≤ℤ high) }
+{
+    low <= high
+}
+
+/// The first part of a tableswitch at the offset that breaks what it must meet.
+fn table_break(
+    offsets: &[u32],
+    at: u32,
+    low: i32,
+    high: i32,
+    other: i32,
+    distances: &[i32],
+    base: usize,
+) -> Option<usize>
+    requires ascend { IsStrictlyIncreasing offsets.now }
+    requires typed { AllByRecursion (FitsSigned w32) distances.now }
+    requires few { length distances.now ≡ targets low high }
+    requires low { base < 2 ^ 36 }
+    ensures { (pool : List PoolEntry) → IsLeastOf (Behind base (InsnBreaks pool offsets.now at (raws.Table low high other distances.now))) result }
+{
+    let place = base + switch_place(at);
+    let elsewhere = unless(lands(offsets, at, other), place);
+    let keys = unless(is_ordered(low, high), place + 4);
+    let targets = targets_break(offsets, at, distances, place + 12);
+    lesser(lesser(elsewhere, keys), targets)
+}
+
+/// The first part of a lookupswitch at the offset that breaks what it must meet.
+fn lookup_break(
+    offsets: &[u32],
+    at: u32,
+    other: i32,
+    cases: &[RawCase],
+    base: usize,
+) -> Option<usize>
+    requires ascend { IsStrictlyIncreasing offsets.now }
+    requires typed { AllByRecursion IsCase cases.now }
+    requires few { length cases.now < 2 ^ 31 }
+    requires low { base < 2 ^ 36 }
+    ensures { (pool : List PoolEntry) → IsLeastOf (Behind base (InsnBreaks pool offsets.now at (raws.Lookup other cases.now))) result }
+{
+    let place = base + switch_place(at);
+    let elsewhere = unless(lands(offsets, at, other), place);
+    let cases = cases_break(offsets, at, cases, place + 8);
+    lesser(elsewhere, cases)
+}
+
 fn is_array_kind(kind: u8) -> bool
     ensures { IsTrue result ↔ ((4 ≤ kind) × (kind ≤ 11)) }
 {
     4 <= kind && kind <= 11
 }
 
-/// The place of the first operand of an instruction that breaks what it must meet, where its opcode
-/// stands at the offset in the code, and at `base` for the answer (JVM Specification 4.9.1).
+/// The place of the first operand of an instruction that breaks what it must meet (JVM Specification
+/// 4.9.1). Its opcode stands at the offset in the code; places are counted so that it has place `base`.
 fn insn_break(pool: &Pool, offsets: &[u32], at: u32, insn: &Raw, base: usize) -> Option<usize>
     requires pool { IsPool pool.now }
     requires ascend { IsStrictlyIncreasing offsets.now }
+    requires typed { IsTyped insn.now }
     requires instruction { IsInstruction insn.now }
     requires low { base < 2 ^ 36 }
     ensures { IsLeastOf (Behind base (InsnBreaks pool.now offsets.now at insn.now)) result }
@@ -112,15 +166,16 @@ fn insn_break(pool: &Pool, offsets: &[u32], at: u32, insn: &Raw, base: usize) ->
             other,
             offsets: distances,
         } => {
-            let place = base + switch_place(at);
-            let start = lesser(unless(lands(offsets, at, *other), place), unless(low <= high, place + 4));
-            lesser(start, targets_break(offsets, at, distances.as_slice(), place + 12))
+            let distances = distances.as_slice();
+            table_break(offsets, at, *low, *high, *other, distances, base)
         }
-        Raw::Lookup { other, cases } => {
-            let place = base + switch_place(at);
-            let start = unless(lands(offsets, at, *other), place);
-            lesser(start, cases_break(offsets, at, cases.as_slice(), place + 8))
-        }
+        Raw::Lookup { other, cases } => lookup_break(
+            offsets,
+            at,
+            *other,
+            cases.as_slice(),
+            base,
+        ),
         Raw::Reference { op, number } => unless(names_taken(pool, *op, *number), base + 1),
         Raw::Interface {
             number,

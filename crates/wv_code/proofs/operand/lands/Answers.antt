@@ -1,7 +1,6 @@
 use Rattle.std.specs.Int.{w32}
 use Rattle.std.proofs.lemmas.Int.{to_z-of_z}
 use Rattle.wv_code.proofs.NamedOperands.{through, lands_some, lands_none}
-use Rattle.wv_code.proofs.LeastPlaces.{items_more}
 use Rattle.wv_code.proofs.operand.lands.Goals as goal
 
 pub returns-in-Some : goal.returns-in-Some
