@@ -12,3 +12,6 @@ pub mod Starts
 pub mod LeastPlaces
 pub mod NamedOperands
 pub mod InsnPlaces
+pub mod RangePlaces
+pub mod FramePlaces
+pub mod TablePlaces

@@ -1,5 +1,6 @@
 -- The offsets at which the instructions of code start.
-use Rattle.std.proofs.Common.{◌≡◌, ℕ, zero, suc, ◌+◌, ◌<◌, ◌≤◌, List, [], ◌∷◌, length, get_or, Err, refl, ap, arith, inl, inr, add-one}
+use Rattle.std.proofs.Common.{◌≡◌, ℕ, zero, suc, ◌+◌, ◌<◌, ◌≤◌, List, [], ◌∷◌, length, get_or, Some, Err, refl, ap, arith, inl, inr, add-one}
+use Rattle.std.specs.Prelude.{slice_get}
 use Rattle.std.specs.List.{AllByRecursion}
 use Rattle.std.specs.List.Sorted.{IsStrictlyIncreasing, IsBinarySearchResult}
 use Rattle.std.specs.Ordering.{nat_cmp}
@@ -66,3 +67,17 @@ not_there xs x i le below above h =
 
 pub not_found : (xs : List ℕ) (x i : ℕ) → IsStrictlyIncreasing xs → IsBinarySearchResult (λ y. nat_cmp y x) xs (Err i) → Starts xs x → ⊥
 not_found xs x i h found = let s = searched xs x (Err i) found (rises xs h) in not_there xs x i s.0 s.1 s.2
+
+-- no two instructions start at one offset
+pub one_index : (xs : List ℕ) (i j x : ℕ) → IsStrictlyIncreasing xs → slice_get xs i ≡ Some x → slice_get xs j ≡ Some x → i ≡ j
+one_index xs i j x h a b = elim (cases_lt i j) [
+  | inl lt ↦ absurd (below xs i j x h lt a b)
+  | inr ge ↦ elim (cases_lt j i) [ inl lt ↦ absurd (below xs j i x h lt b a) | inr le ↦ omega arith ]
+]
+  where
+    below : (xs : List ℕ) (i j x : ℕ) → IsStrictlyIncreasing xs → i < j → slice_get xs i ≡ Some x → slice_get xs j ≡ Some x → ⊥
+    below xs i j x h lt a b =
+        let within : j < length xs = slice_get_within xs j x b in
+        let up : get_or xs i 0 < get_or xs (i + 1) 0 = h i (omega arith) in
+        let more : get_or xs (i + 1) 0 ≤ get_or xs j 0 = rises xs h (i + 1) j (omega arith) within in
+        omega (arith, up, more, get_or_from_slice_get xs i x 0 a, get_or_from_slice_get xs j x 0 b)
