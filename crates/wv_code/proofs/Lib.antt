@@ -15,3 +15,4 @@ pub mod InsnPlaces
 pub mod RangePlaces
 pub mod FramePlaces
 pub mod TablePlaces
+pub mod ContentPlaces

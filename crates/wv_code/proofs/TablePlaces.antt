@@ -30,18 +30,18 @@ use Rattle.wv_code.proofs.InsnPlaces.{either_behind}
 
 -- one list taken apart twice: in the same way, or one front goes on with the other's item
 abbrev Parts : {X : Type 0} → List X → X → List X → X → Type 0
-Parts {X} as a bs b = ((as ≡ bs) × (a ≡ b)) ⊎ (((more : List X) × (bs ≡ as ++ a ∷ more)) ⊎ ((more : List X) × (as ≡ bs ++ b ∷ more)))
+Parts {X} us a bs b = ((us ≡ bs) × (a ≡ b)) ⊎ (((more : List X) × (bs ≡ us ++ a ∷ more)) ⊎ ((more : List X) × (us ≡ bs ++ b ∷ more)))
 
-parted : {X : Type 0} (as bs : List X) (a b : X) (xs ys : List X) → as ++ a ∷ xs ≡ bs ++ b ∷ ys → Parts as a bs b
+parted : {X : Type 0} (us bs : List X) (a b : X) (xs ys : List X) → us ++ a ∷ xs ≡ bs ++ b ∷ ys → Parts us a bs b
 parted [] [] a b xs ys e = inl (refl, cc)
 parted [] (c ∷ bs) a b xs ys e = let one : a ≡ c = cc in inr (inl (bs, ap (λ z. z ∷ bs) (sym one)))
-parted (c ∷ as) [] a b xs ys e = let one : c ≡ b = cc in inr (inr (as, ap (λ z. z ∷ as) one))
-parted (c ∷ as) (d ∷ bs) a b xs ys e =
+parted (c ∷ us) [] a b xs ys e = let one : c ≡ b = cc in inr (inr (us, ap (λ z. z ∷ us) one))
+parted (c ∷ us) (d ∷ bs) a b xs ys e =
     let one : c ≡ d = cc in
-    let rest : as ++ a ∷ xs ≡ bs ++ b ∷ ys = cc in
-    on c d one (parted as bs a b xs ys rest)
+    let rest : us ++ a ∷ xs ≡ bs ++ b ∷ ys = cc in
+    on c d one (parted us bs a b xs ys rest)
   where
-    on : {X : Type 0} {as bs : List X} {a b : X} (c d : X) → c ≡ d → Parts as a bs b → Parts (c ∷ as) a (d ∷ bs) b
+    on : {X : Type 0} {us bs : List X} {a b : X} (c d : X) → c ≡ d → Parts us a bs b → Parts (c ∷ us) a (d ∷ bs) b
     on c d one (inl h) = inl (cc (one, h.0), h.1)
     on c d one (inr (inl h)) = inr (inl (h.0, cc (one, h.1)))
     on c d one (inr (inr h)) = inr (inr (h.0, cc (one, h.1)))
