@@ -125,7 +125,7 @@ break_within pool locals (frames.Append delta more) base at h = omega (arith, ty
 break_within pool locals (frames.Full delta all stack) base at h = omega (arith, lists_within h, sizes)
   where
     sizes : length (frame_bytes (frames.Full delta all stack)) ≡ 7 + length (flat_map type_bytes all) + length (flat_map type_bytes stack)
-    sizes = ap (λ (z : ℕ). 3 + z) (length-append (list_bytes all) (list_bytes stack)) ∙ omega arith
+    sizes = omega (arith, length-append (list_bytes all) (list_bytes stack))
     lists_within : BreaksAt pool locals (frames.Full delta all stack) base at → at ≤ base + (7 + length (flat_map type_bytes all) + length (flat_map type_bytes stack))
     lists_within (inl k) = omega (arith, types_within pool all (base + 5) at k)
     lists_within (inr k) = omega (arith, types_within pool stack (base + 7 + length (flat_map type_bytes all)) at k.1)
