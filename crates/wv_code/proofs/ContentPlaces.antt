@@ -55,9 +55,11 @@ attribute_table pool first code before name base fs seen {a = a} there e f h = s
     table : (s : Bool) → IsTrue s ↔ HasTable before → (a : Option ℕ) → a ≡ unless (not s) base → IsLeastOf (λ n. (n ≡ base) × HasTable before) a
     table true t a f = subst (IsLeastOf (λ n. (n ≡ base) × HasTable before)) (sym f) (record { holds = (refl, t.0 refl); least = λ n k. omega (arith, k.0) })
     table false t a f = subst (IsLeastOf (λ n. (n ≡ base) × HasTable before)) (sym f) (none_of (λ n k. not_there (t.1 k.1)))
+
     to : (n : ℕ) → ((n ≡ base) × HasTable before) ⊎ Behind (base + 6) (FramesBreak pool first code fs) n → Behind base (AttributeBreaks pool first code before (attributes.Frames name fs)) n
     to n (inl k) = (0, inl (refl, tt, k.1), omega (arith, k.0))
     to n (inr k) = (6 + k.0, inr (k.0, k.1, refl), omega (arith, k.2))
+
     from : (n : ℕ) → Behind base (AttributeBreaks pool first code before (attributes.Frames name fs)) n → ((n ≡ base) × HasTable before) ⊎ Behind (base + 6) (FramesBreak pool first code fs) n
     from n (m, inl k, e) = inl (omega (arith, e, k.0), k.2)
     from n (m, inr k, e) = inr (k.0, k.1, omega (arith, e, k.2))
@@ -78,9 +80,11 @@ table_more all i d seen now lt before here = ((λ t. to (here.0 t)), (λ h. here
   where
     at : slice_get all i ≡ Some (get_or all i d)
     at = slice_get-get_or all i d lt
+
     to : IsTrue seen ⊎ IsTable (get_or all i d) → HasTable (take (i + 1) all)
     to (inl t) = let h = before.0 t in let below : h.0 < i = taken_within all i h.0 h.1 h.2 in (h.0, h.1, taken_front all (i + 1) h.0 (omega arith) ∙ sym (taken_front all i h.0 below) ∙ h.2, h.3)
     to (inr t) = (i, get_or all i d, taken_front all (i + 1) i (omega arith) ∙ at, t)
+
     from : HasTable (take (i + 1) all) → IsTrue seen ⊎ IsTable (get_or all i d)
     from (k, a, is, t) = elim (cases_lt k i) [
       | inl lt ↦ inl (before.1 (k, a, taken_front all i k lt ∙ sym (taken_front all (i + 1) k (omega arith)) ∙ is, t))

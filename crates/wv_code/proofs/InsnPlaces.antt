@@ -111,6 +111,7 @@ either_behind {P = P} {Q = Q} base e h k = same (λ n q. to n q) (λ n b. from n
     to : (n : ℕ) → Behind base P n ⊎ Behind base Q n → Behind base (λ m. P m ⊎ Q m) n
     to n (inl b) = (b.0, inl b.1, b.2)
     to n (inr b) = (b.0, inr b.1, b.2)
+
     from : (n : ℕ) → Behind base (λ m. P m ⊎ Q m) n → Behind base P n ⊎ Behind base Q n
     from n (m, inl p, e) = inl (m, p, e)
     from n (m, inr q, e) = inr (m, q, e)
@@ -127,6 +128,7 @@ cases_behind offsets at cases base place full e h = same (λ n q. to n q) (λ n 
     to : (n : ℕ) → InItems cases (CaseBreaks offsets at cases full) n → Behind base (λ m. InItems cases (CaseBreaks offsets at cases place) m) n
     to n (k, case, is, inl q) = (place + 8 * k, (k, case, is, inl (refl, q.1)), omega (arith, q.0, e))
     to n (k, case, is, inr q) = (place + 8 * k + 4, (k, case, is, inr (refl, q.1)), omega (arith, q.0, e))
+
     from : (n : ℕ) → Behind base (λ m. InItems cases (CaseBreaks offsets at cases place) m) n → InItems cases (CaseBreaks offsets at cases full) n
     from n (m, (k, case, is, inl q), b) = (k, case, is, inl (omega (arith, q.0, b, e), q.1))
     from n (m, (k, case, is, inr q), b) = (k, case, is, inr (omega (arith, q.0, b, e), q.1))
@@ -149,6 +151,7 @@ module _ (pool : List PoolEntry) (number base : ℕ) where
     where
       unnamed : NamesClass pool number → ⊥
       unnamed c = none-some c.0 (sym none ∙ c.1)
+
       from : (n : ℕ) → Behind base (InsnPlaces pool offsets at (raws.MultiArray number d)) n → Broken (NamesClass pool number) (base + 1) n
       from n (m, inl q, e) = (e ∙ ap (λ (z : ℕ). base + z) q.0, q.1)
       from n (m, inr (name, named, q), e) = absurd (unnamed (name, named))

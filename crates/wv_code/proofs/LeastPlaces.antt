@@ -69,6 +69,7 @@ items_more {X = X} P xs i d lt e h k = same (λ n q. to n q) (λ n q. from n q) 
   where
     here : slice_get xs i ≡ Some (get_or xs i d)
     here = slice_get-get_or xs i d lt
+
     to : (n : ℕ) → InItems (take i xs) P n ⊎ P i (get_or xs i d) n → InItems (take (i + 1) xs) P n
     to n (inl q) = (
       q.0,
@@ -77,11 +78,13 @@ items_more {X = X} P xs i d lt e h k = same (λ n q. to n q) (λ n q. from n q) 
       q.3,
     )
     to n (inr q) = (i, get_or xs i d, taken_front xs (i + 1) i (omega arith) ∙ here, q)
+
     last : (n k : ℕ) (x : X) → k ≡ i → slice_get (take (i + 1) xs) k ≡ Some x → P k x n → InItems (take i xs) P n ⊎ P i (get_or xs i d) n
     last n k x e is p =
         let there : slice_get xs i ≡ Some x = sym (taken_front xs (i + 1) i (omega arith)) ∙ subst (λ (z : ℕ). slice_get (take (i + 1) xs) z ≡ Some x) e is in
         let one : x ≡ get_or xs i d = sym (get_or_from_slice_get xs i x d there) in
         inr (subst (λ z. P i z n) one (subst (λ (z : ℕ). P z x n) e p))
+
     from : (n : ℕ) → InItems (take (i + 1) xs) P n → InItems (take i xs) P n ⊎ P i (get_or xs i d) n
     from n q = elim (cases_lt q.0 i) [
       | inl lt ↦ inl (q.0, q.1, (taken_front xs i q.0 lt ∙ sym (taken_front xs (i + 1) q.0 (omega arith)) ∙ q.2), q.3)

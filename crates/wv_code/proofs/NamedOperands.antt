@@ -33,6 +33,7 @@ lands_there offsets at to distance e = (
   where
     within : (index : ℕ) → slice_get offsets index ≡ Some to → index < length offsets
     within index is = slice_get_within offsets index to is
+
     same : (a : ℕ) → pos a ≡ pos to → a ≡ to
     same a q = cc
 

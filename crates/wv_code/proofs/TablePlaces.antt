@@ -89,6 +89,7 @@ one_named pool first all a b h k = decide (parted h.before k.before h.broken k.b
   where
     front : (m : ℕ) (f : FirstBreaks pool first all m) (more : List RawFrame) → FirstBreaks pool first (f.before ++ f.broken ∷ more) m
     front m f more = record { before = f.before; broken = f.broken; after = more; parts = refl; frames = f.frames; whole = f.whole; breaks = f.breaks }
+
     decide : Parts h.before h.broken k.before k.broken → a ≡ b
     decide (inl e) =
         let whole : h.frames ≡ k.frames = some_is h.frames k.frames (sym h.whole ∙ ap (frames_from pool 0 first.locals) e.0 ∙ k.whole) in
@@ -126,6 +127,7 @@ break_within pool locals (frames.Full delta all stack) base at h = omega (arith,
   where
     sizes : length (frame_bytes (frames.Full delta all stack)) ≡ 7 + length (flat_map type_bytes all) + length (flat_map type_bytes stack)
     sizes = omega (arith, length-append (list_bytes all) (list_bytes stack))
+
     lists_within : BreaksAt pool locals (frames.Full delta all stack) base at → at ≤ base + (7 + length (flat_map type_bytes all) + length (flat_map type_bytes stack))
     lists_within (inl k) = omega (arith, types_within pool all (base + 5) at k)
     lists_within (inr k) = omega (arith, types_within pool stack (base + 7 + length (flat_map type_bytes all)) at k.1)

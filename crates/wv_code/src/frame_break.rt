@@ -9,10 +9,10 @@ ghost use Rattle.wv_code.specs.Breaks.{IsNew, delta_place};
 ghost use Rattle.wv_code.specs.Least.{IsLeastOf, Behind, InItems};
 ghost use Rattle.wv_code.specs.Checking.{AreStarts, MadeBreaks, TypeAtBreaks, TypesBreak, FrameBreaks, FrameAtBreaks};
 
+use crate::demand::starts;
 use crate::index::index_at;
 use crate::least::{lesser, unless};
 use crate::opcode::NEW;
-use crate::operand::starts;
 use crate::splitting::RawCode;
 use wv_frames::{RawFrame, RawType, frame_len, type_len};
 use wv_insn::Raw;
@@ -132,7 +132,10 @@ fn frame_break(code: &RawCode, frame: &RawFrame, at: u32, base: usize) -> Option
     requires low { base < 2 ^ 53 }
     ensures { IsLeastOf (Behind base (FrameBreaks code.now at frame.now)) result }
 {
-    let stands = unless(starts(code.offsets.as_slice(), at), base + delta_place(frame));
+    let stands = unless(
+        starts(code.offsets.as_slice(), at),
+        base + delta_place(frame),
+    );
     lesser(stands, made_break(code, frame, base))
 }
 

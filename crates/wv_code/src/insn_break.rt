@@ -11,11 +11,11 @@ ghost use Rattle.wv_code.specs.Breaks.{InsnBreaks};
 ghost use Rattle.wv_code.specs.Least.{IsLeastOf, Broken, Behind, InItems};
 ghost use Rattle.wv_code.specs.Checking.{AreStarts, IsAbove, TargetBreaks, CaseBreaks, InsnAtBreaks};
 
-use crate::least::{lesser, unless};
-use crate::operand::{
+use crate::demand::{
     has_dimensions, interface_descriptor, is_count_of, lands, names_class, names_loaded,
     names_site, names_taken,
 };
+use crate::least::{lesser, unless};
 use crate::splitting::RawCode;
 use wv_insn::{Raw, RawCase};
 use wv_pool::Pool;
@@ -169,13 +169,7 @@ fn insn_break(pool: &Pool, offsets: &[u32], at: u32, insn: &Raw, base: usize) ->
             let distances = distances.as_slice();
             table_break(offsets, at, *low, *high, *other, distances, base)
         }
-        Raw::Lookup { other, cases } => lookup_break(
-            offsets,
-            at,
-            *other,
-            cases.as_slice(),
-            base,
-        ),
+        Raw::Lookup { other, cases } => lookup_break(offsets, at, *other, cases.as_slice(), base),
         Raw::Reference { op, number } => unless(names_taken(pool, *op, *number), base + 1),
         Raw::Interface {
             number,

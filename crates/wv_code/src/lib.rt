@@ -3,6 +3,7 @@
 
 mod code_layout;
 mod constants;
+mod demand;
 mod entering;
 mod formed;
 mod frame_break;
@@ -12,7 +13,6 @@ mod laws;
 mod laying;
 mod least;
 mod opcode;
-mod operand;
 mod range_break;
 mod raw_body;
 mod reference;
@@ -28,6 +28,9 @@ pub use raw_body::{RawAttribute, RawBody, RawRange};
 pub use reference::first_break;
 pub use splitting::{RawCode, split_code};
 pub use writing::write_insns;
+
+#[cfg(test)]
+mod reference_tests;
 
 #[cfg(test)]
 mod tests;

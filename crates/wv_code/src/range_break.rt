@@ -5,8 +5,8 @@ ghost use Rattle.wv_code.specs.Breaks.{Starts, NamesClass, RangeBreaks};
 ghost use Rattle.wv_code.specs.Least.{IsLeastOf, Behind, InItems};
 ghost use Rattle.wv_code.specs.Checking.{RangeAtBreaks};
 
+use crate::demand::{names_class, starts};
 use crate::least::{lesser, unless};
-use crate::operand::{names_class, starts};
 use crate::raw_body::RawRange;
 use wv_pool::Pool;
 
@@ -68,7 +68,10 @@ pub(crate) fn ranges_break(
 {
     let mut first = None;
     for (index, range) in ranges.iter().enumerate() {
-        first = lesser(first, range_break(pool, offsets, len, *range, base + 8 * index));
+        first = lesser(
+            first,
+            range_break(pool, offsets, len, *range, base + 8 * index),
+        );
     }
     first
 }

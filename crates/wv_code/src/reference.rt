@@ -169,7 +169,13 @@ pub fn first_break(
     let attributes = raw.attributes.as_slice();
     let len = unless(is_code_len(raw.len), 4);
     let insns = insns_break(pool, &raw.code);
-    let ranges = ranges_break(pool, offsets, raw.len, raw.ranges.as_slice(), behind_code + 2);
+    let ranges = ranges_break(
+        pool,
+        offsets,
+        raw.len,
+        raw.ranges.as_slice(),
+        behind_code + 2,
+    );
     let others = attributes_break(alloc, pool, first, &raw.code, attributes, behind_ranges)?;
     Ok(lesser(lesser(len, insns), lesser(ranges, others)))
 }

@@ -1,6 +1,6 @@
 use Rattle.std.proofs.Common.{sym}
 use Rattle.wv_code.proofs.NamedOperands.{interface_there}
-use Rattle.wv_code.proofs.operand.interface_descriptor.Goals as goal
+use Rattle.wv_code.proofs.demand.interface_descriptor.Goals as goal
 
 pub returns-clause-found : goal.returns-clause-found
 returns-clause-found c =

@@ -1,7 +1,7 @@
 use Rattle.std.specs.Int.{w32}
 use Rattle.std.proofs.lemmas.Int.{to_z-of_z}
 use Rattle.wv_code.proofs.NamedOperands.{through, lands_some, lands_none}
-use Rattle.wv_code.proofs.operand.lands.Goals as goal
+use Rattle.wv_code.proofs.demand.lands.Goals as goal
 
 pub returns-in-Some : goal.returns-in-Some
 returns-in-Some c = through c.starts.ensures (lands_some c.args.offsets.now c.args.at c.in-Some.to c.args.distance _ (to_z-of_z w32 c.args.distance c.ranges.distance) c.in-Some.ensures)
