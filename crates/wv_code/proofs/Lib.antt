@@ -32,3 +32,11 @@ pub mod SoundInsns
 pub mod SoundFrames
 pub mod BodyWritten
 pub mod BodySpelled
+pub mod Starts
+pub mod LeastPlaces
+pub mod NamedOperands
+pub mod InsnPlaces
+pub mod RangePlaces
+pub mod FramePlaces
+pub mod TablePlaces
+pub mod ContentPlaces

@@ -18,3 +18,6 @@ pub mod Behind
 pub mod FormedBody
 pub mod BodyConstants
 pub mod WritingBody
+pub mod Least
+pub mod Operands
+pub mod Checking

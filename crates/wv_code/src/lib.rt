@@ -8,6 +8,7 @@ mod content;
 mod body_constants;
 mod body_writing;
 mod content_writing;
+mod demand;
 mod entering;
 mod fitting;
 mod formed;
@@ -16,9 +17,15 @@ mod laws;
 mod laying;
 mod number;
 mod offset_frame;
+mod frame_break;
+mod index;
+mod insn_break;
+mod least;
 mod opcode;
+mod range_break;
 mod raw_body;
 mod raw_range;
+mod reference;
 mod size;
 mod splitting;
 mod stop;
@@ -33,11 +40,14 @@ pub use formed_body::is_formed;
 pub use laws::{formed_stays, one_layout, size_of_what_is_spelled};
 pub use laying::layout;
 pub use raw_body::{RawAttribute, RawBody, RawRange};
+pub use reference::first_break;
 pub use splitting::{RawCode, split_code};
 pub use writing::write_insns;
 
 #[cfg(test)]
 mod fitting_tests;
+mod reference_tests;
+
 #[cfg(test)]
 mod tests;
 #[cfg(test)]

@@ -18,6 +18,8 @@ pub(crate) const INVOKESTATIC: u8 = 0xb8;
 
 pub(crate) const INVOKEINTERFACE: u8 = 0xb9;
 
+pub(crate) const NEW: u8 = 0xbb;
+
 pub(crate) const GOTO_W: u8 = 0xc8;
 
 pub(crate) const NEW: u8 = 0xbb;

@@ -1,0 +1,1 @@
+use Rattle.wv_code.proofs.InsnPlaces.{insn_least}
