@@ -1,5 +1,5 @@
 -- Targets and distances.
-use Rattle.std.proofs.Common.{◌≡◌, ℕ, suc, ◌+◌, ◌<◌, ◌≤◌, ℤ, Bool, true, false, List, [], ◌∷◌, ◌++◌, length, get_or, take, Some, refl, sym, ap, subst, arith}
+use Rattle.std.proofs.Common.{◌≡◌, ℕ, suc, ◌+◌, ◌<◌, ◌≤◌, ℤ, Bool, true, false, List, [], ◌∷◌, ◌++◌, length, get_or, take, Some, refl, sym, ap, subst, arith, inl, inr, ◌⊎◌}
 use Rattle.std.specs.Prelude.{nat_lt}
 use Rattle.std.specs.List.{AllByRecursion}
 use Rattle.std.proofs.lemmas.Int.{ints}
@@ -17,9 +17,9 @@ use Rattle.wv_insn.specs.Spelling.{targets}
 use Rattle.wv_pool.specs.Constants.{constant_of}
 use Rattle.wv_pool.specs.Numbers.{IsLeast}
 use Rattle.wv_code.specs.Constants.{constants_in}
-use Rattle.wv_code.specs.Formed.{last_key}
+use Rattle.wv_code.specs.Formed.{TakesMember, last_key}
 use Rattle.wv_code.specs.Laying.{IsLong}
-use Rattle.wv_code.specs.Meaning.{NamesConstant, Leads, AllLead, AllCasesLead, Means}
+use Rattle.wv_code.specs.Meaning.{NamesConstant, Leads, AllLead, AllCasesLead, IsFlagged, Means}
 use Rattle.wv_code.specs.Writing.{load_opcode, IsMember, IsWritten}
 use Rattle.wv_code.proofs.Lists.{AllByRecursion-map}
 
@@ -63,12 +63,18 @@ pub keys_are : (low : ℤ) (count : ℕ) → 1 ≤ count → targets low (last_k
 unfolding targets
 keys_are low count some = grind (arith, ints)
 
+-- the member that an opcode takes has a flag only where it is a method
+pub flag_taken : (op : ℕ) (descriptor : List ℕ) (interface : Bool) → TakesMember op descriptor interface → IsFlagged op interface
+flag_taken op descriptor interface (inl h) le = h.2
+flag_taken op descriptor interface (inr (inl h)) le = absurd (omega arith)
+flag_taken op descriptor interface (inr (inr h)) le = absurd (omega arith)
+
 -- a member's raw instruction means it
-pub member_means : (pool : List PoolEntry) (offsets : List ℕ) (at op number : ℕ) (owner name descriptor : List ℕ) (interface : Bool) (r : Raw) → IsMember op number descriptor r
+pub member_means : (pool : List PoolEntry) (offsets : List ℕ) (at op number : ℕ) (owner name descriptor : List ℕ) (interface : Bool) (r : Raw) → IsMember op number descriptor r → TakesMember op descriptor interface
     → NamesConstant pool number (insn.Reference op owner name descriptor interface) → Means pool offsets at r (insn.Reference op owner name descriptor interface)
-member_means pool offsets at op number owner name descriptor interface (raw.Reference o n) h names = (h.0, rw h.1 names)
-member_means pool offsets at op number owner name descriptor interface (raw.Interface n count last) h names = (h.0, rw h.1 names, h.2, h.3)
-member_means pool offsets at op number owner name descriptor interface _ h names = absurd h
+member_means pool offsets at op number owner name descriptor interface (raw.Reference o n) h takes names = (h.0, rw h.1 names, flag_taken op descriptor interface takes)
+member_means pool offsets at op number owner name descriptor interface (raw.Interface n count last) h takes names = (h.0, rw h.1 names, h.2, h.3)
+member_means pool offsets at op number owner name descriptor interface _ h takes names = absurd h
 
 -- a load's too
 pub load_written : (pool : List PoolEntry) (offsets : List ℕ) (at op number : ℕ) (value : Const) → IsLeast pool value number → IsWritten pool offsets at (raw.Load (load_opcode op number) number) (insn.Load op value)

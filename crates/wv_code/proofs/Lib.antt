@@ -8,3 +8,8 @@ pub mod Sizes
 pub mod Follows
 pub mod Written
 pub mod Splits
+pub mod Starts
+pub mod Indices
+pub mod Operands
+pub mod Ranges
+pub mod Placing

@@ -10,3 +10,4 @@ pub mod Splitting
 pub mod Content
 pub mod Breaks
 pub mod Body
+pub mod Placed

@@ -1,12 +1,12 @@
 -- What an instruction of a method's code means: a constant in place of a pool number, and the index of an instruction
 -- in place of a distance in bytes.
-use Rattle.std.specs.Prelude.{◌≡◌, ℕ, ◌+◌, ◌<◌, ◌==◌, ◌&&◌, ℤ, pos, ◌+ℤ◌, Bool, List, [], ◌∷◌, length, slice_index, Some, if◌then◌else◌}
+use Rattle.std.specs.Prelude.{◌≡◌, ℕ, ◌+◌, ◌<◌, ◌≤◌, ◌==◌, ◌&&◌, ℤ, pos, ◌+ℤ◌, Bool, false, List, [], ◌∷◌, length, slice_index, Some, if◌then◌else◌}
 use Rattle.std.specs.List.{AllByRecursion}
 use Rattle.wv_base.specs.declared.class_file.PoolEntry.{PoolEntry}
 use Rattle.wv_base.specs.declared.insn.Insn.{Insn}
 use Rattle.wv_base.specs.declared.insn.Insn.TheVariants as insn
 use Rattle.wv_base.specs.declared.insn.Case.{Case}
-use Rattle.wv_base.specs.Opcodes.{ldc, ldc_w, invokeinterface}
+use Rattle.wv_base.specs.Opcodes.{ldc, ldc_w, putfield, invokeinterface}
 use Rattle.wv_base.specs.Descriptor.{HasWords}
 use Rattle.wv_insn.specs.declared.raw.Raw.{Raw}
 use Rattle.wv_insn.specs.declared.raw.Raw.TheVariants as raw
@@ -33,6 +33,10 @@ AllCasesLead offsets at [] [] = Unit {0}
 AllCasesLead offsets at (r ∷ raws) (c ∷ cases) = (r.key ≡ c.key) × Leads offsets at r.offset c.to × AllCasesLead offsets at raws cases
 AllCasesLead offsets at _ _ = ⊥
 
+-- a field is no member of an interface (6.5, getstatic to putfield)
+abbrev pub IsFlagged : ℕ → Bool → Type 0
+IsFlagged op interface = op ≤ putfield → interface ≡ false
+
 -- Where the instructions of a method stand at these offsets, the one that bytes spell at an offset means this one.
 abbrev pub Means : List PoolEntry → List ℕ → ℕ → Raw → Insn → Type 0
 Means pool offsets at (raw.Plain op) (insn.Plain o) = op ≡ o
@@ -45,7 +49,7 @@ Means pool offsets at (raw.Table low high other distances) (insn.Table l to targ
     (low ≡ l) × (high ≡ last_key l (length targets)) × Leads offsets at other to × AllLead offsets at distances targets
 Means pool offsets at (raw.Lookup other raws) (insn.Lookup to cases) = Leads offsets at other to × AllCasesLead offsets at raws cases
 Means pool offsets at (raw.Reference op number) (insn.Reference o owner name descriptor interface) =
-    (op ≡ o) × NamesConstant pool number (insn.Reference o owner name descriptor interface)
+    (op ≡ o) × NamesConstant pool number (insn.Reference o owner name descriptor interface) × IsFlagged o interface
 Means pool offsets at (raw.Interface number count last) (insn.Reference o owner name descriptor interface) =
     (o ≡ invokeinterface) × NamesConstant pool number (insn.Reference o owner name descriptor interface)
     × ((words : ℕ) × HasWords descriptor words × (count ≡ words + 1)) × (last ≡ 0)

@@ -27,7 +27,7 @@ returns-clause-written c =
           rw (w.result-is, w.in-Reference.is) (
             false,
             tt,
-            member_means c.args.pool.now c.args.offsets.now c.args.at w.in-Reference.op c.in_ok-number.number w.in-Reference.owner w.in-Reference.name w.in-Reference.descriptor w.in-Reference.interface w.reference.result w.reference.ensures.is
+            member_means c.args.pool.now c.args.offsets.now c.args.at w.in-Reference.op c.in_ok-number.number w.in-Reference.owner w.in-Reference.name w.in-Reference.descriptor w.in-Reference.interface w.reference.result w.reference.ensures.is (rw w.in-Reference.is at c.requires.shaped)
                 (rw w.in-Reference.is at names),
           )
       | in-Site w ↦ rw (w.result-is, w.in-Site.is) (false, tt, rw w.in-Site.is at names)
