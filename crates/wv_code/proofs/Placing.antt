@@ -17,7 +17,7 @@ use Rattle.wv_frames.specs.declared.raw.RawFrame.TheVariants as frames
 use Rattle.wv_frames.specs.Whole.{type_of, types_of, frame_of, frame_after, delta_of, frames_from}
 use Rattle.wv_code.specs.declared.splitting.RawCode.{RawCode}
 use Rattle.wv_code.specs.Body.{IsPlaced, IsStart}
-use Rattle.wv_code.specs.Breaks.{Starts, HasType, next_offset, FramesBreak}
+use Rattle.wv_code.specs.Breaks.{Starts, HasType, with_one, extended, append, local, stack, next_offset, FramesBreak, stands, made}
 use Rattle.wv_code.specs.Placed.{IsTypePlaced, IsFramePlaced}
 use Rattle.wv_code.proofs.Indices.{starts}
 
@@ -75,19 +75,19 @@ frame_placed : (pool : List PoolEntry) (offsets : List ℕ) (locals : List VType
 frame_placed pool offsets locals (frames.Same delta) f h makes e = subst (AreTypesPlaced offsets) (some_is (frame_of locals []) f e) (h, tt)
 frame_placed pool offsets locals (frames.SameExtended delta) f h makes e = subst (AreTypesPlaced offsets) (some_is (frame_of locals []) f e) (h, tt)
 frame_placed pool offsets locals (frames.SameWithOne delta stack) f h makes e =
-    with_stack pool offsets locals stack f h e (λ at is. makes at 1 (subst (λ (t : RawType). HasType (frames.SameWithOne delta stack) t 1) is HasType.with_one))
+    with_stack pool offsets locals stack f h e (λ at is. makes at 1 (subst (λ (t : RawType). HasType (frames.SameWithOne delta stack) t 1) is with_one))
 frame_placed pool offsets locals (frames.SameWithOneExtended delta stack) f h makes e =
-    with_stack pool offsets locals stack f h e (λ at is. makes at 3 (subst (λ (t : RawType). HasType (frames.SameWithOneExtended delta stack) t 3) is HasType.extended))
+    with_stack pool offsets locals stack f h e (λ at is. makes at 3 (subst (λ (t : RawType). HasType (frames.SameWithOneExtended delta stack) t 3) is extended))
 frame_placed pool offsets locals (frames.Chop count delta) f h makes e = chopped offsets locals (length locals - count) (nat_le count (length locals)) f h e
 frame_placed pool offsets locals (frames.Append delta more) f h makes e =
     let m = map_some (λ last. frame_of (locals ++ last) []) (types_of pool more) f e in
-    let last = types_placed pool offsets more m.0 m.1 (λ k at is. makes at _ (HasType.append k (types.Uninitialized at) is)) in
+    let last = types_placed pool offsets more m.0 m.1 (λ k at is. makes at _ (append k (types.Uninitialized at) is)) in
     subst (AreTypesPlaced offsets) m.2 (all_append (IsTypePlaced offsets) locals m.0 h last, tt)
 frame_placed pool offsets locals (frames.Full delta all stack) f h makes e =
     let t = then_some (λ first. option_map (λ items. frame_of first items) (types_of pool stack)) (types_of pool all) f e in
     let m = map_some (λ items. frame_of t.0 items) (types_of pool stack) f t.2 in
-    let firsts = types_placed pool offsets all t.0 t.1 (λ k at is. makes at _ (HasType.local k (types.Uninitialized at) is)) in
-    let items = types_placed pool offsets stack m.0 m.1 (λ k at is. makes at _ (HasType.stack k (types.Uninitialized at) is)) in
+    let firsts = types_placed pool offsets all t.0 t.1 (λ k at is. makes at _ (local k (types.Uninitialized at) is)) in
+    let items = types_placed pool offsets stack m.0 m.1 (λ k at is. makes at _ (stack k (types.Uninitialized at) is)) in
     subst (AreTypesPlaced offsets) m.2 (firsts, items)
 
 -- from an offset on, behind a frame with these locals
@@ -111,5 +111,5 @@ pub frames_placed : (pool : List PoolEntry) (first : Frame) (code : RawCode) (ra
     → AllByRecursion (IsFramePlaced code.offsets) spelled
 frames_placed pool first code raws spelled start sound e =
     placed_from pool code.offsets 0 first.locals raws spelled (start_placed code.offsets first.locals start)
-    (λ k f is. starts code.offsets (next_offset 0 (take k raws) + delta_of f) (λ none. sound _ (FramesBreak.stands k f is none)))
-    (λ k f is at place has. starts code.offsets at (λ none. sound _ (FramesBreak.made k f at place is has (λ new. none (new.0, new.2))))) e
+    (λ k f is. starts code.offsets (next_offset 0 (take k raws) + delta_of f) (λ none. sound _ (stands k f is none)))
+    (λ k f is at place has. starts code.offsets at (λ none. sound _ (made k f at place is has (λ new. none (new.0, new.2))))) e

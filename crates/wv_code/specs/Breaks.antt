@@ -1,6 +1,6 @@
 -- The items of a Code attribute's content that break what they must meet (JVM Specification 4.7.3, 4.7.4 and 4.9.1), by
 -- their places in it.
-use Rattle.std.specs.Prelude.{◌≡◌, ℕ, ◌+◌, ◌*◌, ◌<◌, ◌≤◌, ◌<ℤ◌, ◌≤ℤ◌, ℤ, List, [], ◌∷◌, ◌++◌, length, take, slice_get, Some, ◌⊎◌}
+use Rattle.std.specs.Prelude.{◌≡◌, ℕ, ◌+◌, ◌*◌, ◌<◌, ◌≤◌, ◌<ℤ◌, ◌≤ℤ◌, ℤ, true, false, List, [], ◌∷◌, ◌++◌, length, take, slice_get, Some, ◌⊎◌}
 use Rattle.std.specs.List.{flat_map}
 use Rattle.wv_base.specs.declared.class_file.PoolEntry.{PoolEntry}
 use Rattle.wv_base.specs.declared.constant.Const.{Const}
@@ -105,8 +105,8 @@ pub data HasType : RawFrame → RawType → ℕ → Type 0 where
   with_one : {delta : ℕ} {stack : RawType} → HasType (frames.SameWithOne delta stack) stack 1
   extended : {delta : ℕ} {stack : RawType} → HasType (frames.SameWithOneExtended delta stack) stack 3
   append : {delta : ℕ} {locals : List RawType} (k : ℕ) (t : RawType) → slice_get locals k ≡ Some t → HasType (frames.Append delta locals) t (3 + length (flat_map type_bytes (take k locals)))
-  local : {delta : ℕ} {locals stack : List RawType} (k : ℕ) (t : RawType) → slice_get locals k ≡ Some t → HasType (frames.Full delta locals stack) t (5 + length (flat_map type_bytes (take k locals)))
-  stack : {delta : ℕ} {locals stack : List RawType} (k : ℕ) (t : RawType) → slice_get stack k ≡ Some t
+  in_locals : {delta : ℕ} {locals stack : List RawType} (k : ℕ) (t : RawType) → slice_get locals k ≡ Some t → HasType (frames.Full delta locals stack) t (5 + length (flat_map type_bytes (take k locals)))
+  on_stack : {delta : ℕ} {locals stack : List RawType} (k : ℕ) (t : RawType) → slice_get stack k ≡ Some t
       → HasType (frames.Full delta locals stack) t (7 + length (flat_map type_bytes locals) + length (flat_map type_bytes (take k stack)))
 
 -- the place in a frame of the number that says where it stands: the tag has a small one in itself
@@ -148,7 +148,7 @@ pub data Breaks (pool : List PoolEntry) (first : Frame) (raw : RawBody) : ℕ �
   -- there is one StackMapTable at most
   twice : (j k name other : ℕ) (fs gs : List RawFrame) → j < k → slice_get raw.attributes j ≡ Some (attributes.Frames name fs) → slice_get raw.attributes k ≡ Some (attributes.Frames other gs)
       → Breaks pool first raw (attribute_place raw k)
-  frames : (k name place : ℕ) (fs : List RawFrame) → slice_get raw.attributes k ≡ Some (attributes.Frames name fs) → FramesBreak pool first raw.code fs place
+  frame : (k name place : ℕ) (fs : List RawFrame) → slice_get raw.attributes k ≡ Some (attributes.Frames name fs) → FramesBreak pool first raw.code fs place
       → Breaks pool first raw (attribute_place raw k + 6 + place)
 
 -- the first item that breaks what it must meet
