@@ -11,14 +11,14 @@ use Rattle.wv_code.specs.Breaks.{Starts, Lands}
 use Rattle.wv_code.specs.Meaning.{Leads}
 
 -- as many numbers are below an offset as offsets
-at_least : (xs : List ℕ) (i : ℕ) → IsStrictlyIncreasing xs → i < length xs → i ≤ get_or xs i 0
+pub at_least : (xs : List ℕ) (i : ℕ) → IsStrictlyIncreasing xs → i < length xs → i ≤ get_or xs i 0
 at_least xs zero h lt = omega arith
 at_least xs (suc i) h lt = let before : i ≤ get_or xs i 0 = at_least xs i h (omega arith) in omega (arith, rw add-one at (h i (omega arith)))
 
 pub index_small : (xs : List ℕ) (i x : ℕ) → IsStrictlyIncreasing xs → slice_get xs i ≡ Some x → i ≤ x
 index_small xs i x h e = omega (arith, at_least xs i h (slice_get_within xs i x e), get_or_from_slice_get xs i x 0 e)
 
-ascend : (xs : List ℕ) (i j : ℕ) → IsStrictlyIncreasing xs → i < j → j < length xs → get_or xs i 0 < get_or xs j 0
+pub ascend : (xs : List ℕ) (i j : ℕ) → IsStrictlyIncreasing xs → i < j → j < length xs → get_or xs i 0 < get_or xs j 0
 ascend xs i zero h lt within = absurd (omega arith)
 ascend xs i (suc j) h lt within = elim (cases_order i j) [
   | inl e ↦ rw e (rw add-one at (h j (omega arith)))

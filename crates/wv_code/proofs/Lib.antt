@@ -13,3 +13,9 @@ pub mod Indices
 pub mod Operands
 pub mod Ranges
 pub mod Placing
+pub mod Landings
+pub mod Switches
+pub mod Meanings
+pub mod Framed
+pub mod Tables
+pub mod OneBody

@@ -1,6 +1,6 @@
 -- What sound operands of instructions name.
 use Rattle.std.proofs.Common.{◌≡◌, ℕ, ◌+◌, ◌<◌, ◌≤◌, Bool, true, false, cond, List, Option, Some, None, refl, sym, ap, subst, ◌∙◌, ◌⊎◌, inl, inr, arith}
-use Rattle.std.specs.Prelude.{nat_le, IsSomeAnd}
+use Rattle.std.specs.Prelude.{nat_le, IsSomeAnd, IfOk, Result, Ok, Err}
 use Rattle.std.specs.Option.{option_map, option_and_then}
 use Rattle.std.proofs.lemmas.Bool.{cases_lt, cases_eq}
 use Rattle.std.proofs.lemmas.Bool.Decides.{nat_tests}
@@ -21,8 +21,13 @@ use Rattle.wv_pool.proofs.Behind.{some_is, then_some, class_is, interface_entry}
 use Rattle.wv_pool.proofs.SoundPools.{some_and, pair_entry, sound_at}
 use Rattle.wv_code.specs.Constants.{member_constant, constants_in}
 use Rattle.wv_code.specs.Meaning.{NamesConstant, Means}
-use Rattle.wv_code.specs.Breaks.{Loads, Takes, TakesInterface, TakesSite, NamesClass, InsnBreaks}
+use Rattle.wv_code.specs.Breaks.{Loads, Takes, TakesInterface, TakesSite, NamesClass, InsnBreaks, count as not_counted, zero as not_zero}
 use Rattle.wv_code.proofs.Shapes.{words_same}
+
+-- what is answered still meets a weaker fact
+pub ok_map : {A E : Type 0} (P Q : A → Type 0) (r : Result A E) → ((x : A) → P x → Q x) → IfOk r P → IfOk r Q
+ok_map P Q (Ok x) f h = f x h
+ok_map P Q (Err e) f h = tt
 
 -- ---- classes
 
@@ -71,10 +76,10 @@ takes_method pool op n m interface h named = elim (cases_lt putfield op) [
     other r (inr (inl t)) below = omega (arith, t.0)
     other r (inr (inr t)) below = omega (arith, t.0)
 
-field_constant : (op : ℕ) (m : MemberReference) → op ≤ putfield → member_constant op m false ≡ constants.Field m
+pub field_constant : (op : ℕ) (m : MemberReference) → op ≤ putfield → member_constant op m false ≡ constants.Field m
 field_constant op m le = let t : nat_le op putfield ≡ true = grind (arith, nat_tests) in ap (λ (b : Bool). cond b (constants.Field m) (constants.Method m false)) t
 
-method_constant : (op : ℕ) (m : MemberReference) (interface : Bool) → putfield < op → member_constant op m interface ≡ constants.Method m interface
+pub method_constant : (op : ℕ) (m : MemberReference) (interface : Bool) → putfield < op → member_constant op m interface ≡ constants.Method m interface
 method_constant op m interface lt = let t : nat_le op putfield ≡ false = grind (arith, nat_tests) in ap (λ (b : Bool). cond b (constants.Field m) (constants.Method m interface)) t
 
 pub field_means : (pool : List PoolEntry) (offsets : List ℕ) (at op n : ℕ) (m : MemberReference) → ((Takes pool op n → ⊥) → ⊥) → constant_of pool n ≡ Some (constants.Field m) → Means pool offsets at (raw.Reference op n) (insn.Reference op m.owner m.name m.descriptor false)
@@ -127,3 +132,12 @@ counted descriptor count method h =
       | inl e ↦ (words, has, e)
       | inr ne ↦ absurd (h (λ other others e. ne (e ∙ ap (λ (z : ℕ). z + 1) (words_same descriptor other words others has))))
     ]
+
+pub interface_means : (pool : List PoolEntry) (offsets : List ℕ) (at n count last : ℕ) (m : MemberReference) → constant_of pool n ≡ Some (constants.Method m true) → IsMethodDescriptor m.descriptor
+    → ((place : ℕ) → InsnBreaks pool offsets at (raw.Interface n count last) place → ⊥) → Means pool offsets at (raw.Interface n count last) (insn.Reference invokeinterface m.owner m.name m.descriptor true)
+interface_means pool offsets at n count last m named method sound = (
+  refl,
+  (named ∙ ap (λ (c : Const). Some c) (sym (method_constant invokeinterface m true (omega arith))), tt),
+  counted m.descriptor count method (λ none. sound 3 (not_counted (m, named, refl) none)),
+  elim (cases_eq last 0) [ inl e ↦ e | inr ne ↦ absurd (sound 4 (not_zero ne)) ],
+)

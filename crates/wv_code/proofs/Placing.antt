@@ -17,7 +17,7 @@ use Rattle.wv_frames.specs.declared.raw.RawFrame.TheVariants as frames
 use Rattle.wv_frames.specs.Whole.{type_of, types_of, frame_of, frame_after, delta_of, frames_from}
 use Rattle.wv_code.specs.declared.splitting.RawCode.{RawCode}
 use Rattle.wv_code.specs.Body.{IsPlaced, IsStart}
-use Rattle.wv_code.specs.Breaks.{Starts, HasType, with_one, extended, append, local, stack, next_offset, FramesBreak, stands, made}
+use Rattle.wv_code.specs.Breaks.{Starts, HasType, with_one, extended, append, in_locals, on_stack, next_offset, FramesBreak, stands, made}
 use Rattle.wv_code.specs.Placed.{IsTypePlaced, IsFramePlaced}
 use Rattle.wv_code.proofs.Indices.{starts}
 
@@ -86,21 +86,21 @@ frame_placed pool offsets locals (frames.Append delta more) f h makes e =
 frame_placed pool offsets locals (frames.Full delta all stack) f h makes e =
     let t = then_some (λ first. option_map (λ items. frame_of first items) (types_of pool stack)) (types_of pool all) f e in
     let m = map_some (λ items. frame_of t.0 items) (types_of pool stack) f t.2 in
-    let firsts = types_placed pool offsets all t.0 t.1 (λ k at is. makes at _ (local k (types.Uninitialized at) is)) in
-    let items = types_placed pool offsets stack m.0 m.1 (λ k at is. makes at _ (stack k (types.Uninitialized at) is)) in
+    let firsts = types_placed pool offsets all t.0 t.1 (λ k at is. makes at _ (in_locals k (types.Uninitialized at) is)) in
+    let items = types_placed pool offsets stack m.0 m.1 (λ k at is. makes at _ (on_stack k (types.Uninitialized at) is)) in
     subst (AreTypesPlaced offsets) m.2 (firsts, items)
 
 -- from an offset on, behind a frame with these locals
 placed_from : (pool : List PoolEntry) (offsets : List ℕ) (next : ℕ) (locals : List VType) (raws : List RawFrame) (spelled : List FrameAt) → AllByRecursion (IsTypePlaced offsets) locals
     → ((k : ℕ) (f : RawFrame) → slice_get raws k ≡ Some f → Starts offsets (next_offset next (take k raws) + delta_of f)) → ((k : ℕ) (f : RawFrame) → slice_get raws k ≡ Some f → Makes offsets f)
     → frames_from pool next locals raws ≡ Some spelled → AllByRecursion (IsFramePlaced offsets) spelled
-placed_from pool offsets next locals [] spelled h stands makes e = subst (AllByRecursion (IsFramePlaced offsets)) (some_is [] spelled e) tt
-placed_from pool offsets next locals (raw ∷ raws) spelled h stands makes e =
+placed_from pool offsets next locals [] spelled h standing makes e = subst (AllByRecursion (IsFramePlaced offsets)) (some_is [] spelled e) tt
+placed_from pool offsets next locals (raw ∷ raws) spelled h standing makes e =
     let t = then_some (λ frame. option_map (λ rest. record { at = next + delta_of raw; frame = frame } ∷ rest) (frames_from pool (next + delta_of raw + 1) frame.locals raws)) (frame_after pool locals raw) spelled e in
     let r = map_some (λ rest. record { at = next + delta_of raw; frame = t.0 } ∷ rest) (frames_from pool (next + delta_of raw + 1) t.0.locals raws) spelled t.2 in
     let here = frame_placed pool offsets locals raw t.0 h (makes 0 raw refl) t.1 in
-    let others = placed_from pool offsets (next + delta_of raw + 1) t.0.locals raws r.0 here.0 (λ k f is. stands (suc k) f is) (λ k f is. makes (suc k) f is) r.1 in
-    subst (AllByRecursion (IsFramePlaced offsets)) r.2 ((stands 0 raw refl, here.0, here.1), others)
+    let others = placed_from pool offsets (next + delta_of raw + 1) t.0.locals raws r.0 here.0 (λ k f is. standing (suc k) f is) (λ k f is. makes (suc k) f is) r.1 in
+    subst (AllByRecursion (IsFramePlaced offsets)) r.2 ((standing 0 raw refl, here.0, here.1), others)
 
 start_placed : (offsets : List ℕ) (locals : List VType) → AllByRecursion IsPlaced locals → AllByRecursion (IsTypePlaced offsets) locals
 start_placed offsets [] h = tt

@@ -1,5 +1,5 @@
 //! The body that the content of a Code attribute means.
-ghost use Rattle.std.specs.Prelude.{◌≡◌, ◌<◌, ◌↔◌, ℕ, List, Some, IsTrue, IfOk, slice_get};
+ghost use Rattle.std.specs.Prelude.{◌≡◌, ◌<◌, ◌↔◌, ℕ, List, [], ◌∷◌, Some, IsTrue, IfOk, MatchOption, slice_get};
 ghost use Rattle.std.specs.List.{flat_map};
 ghost use Rattle.wv_frames.specs.declared.raw.RawFrame.{RawFrame};
 ghost use Rattle.wv_code.specs.Body.{frames_in, kept_name, kept_in, IsBodyOf, IsPlaced, IsStart};
@@ -39,16 +39,32 @@ fn kept_name(pool: &Pool, name: u16) -> u16
     }
 }
 
-/// The attributes other than the StackMapTable. Their contents are moved.
-fn kept_of(alloc: Global, pool: &Pool, attributes: Items<RawAttribute>) -> Result<Items<Attribute>, Memory>
+/// The attribute as it is kept, if it is. Its content is moved.
+fn kept_in(pool: &Pool, attribute: RawAttribute) -> Option<Attribute>
+    ensures { MatchOption result (kept_in pool.now attribute ≡ []) (λ kept. kept_in pool.now attribute ≡ kept ∷ []) }
+{
+    match attribute {
+        RawAttribute::Kept(Attribute { name, content }) => {
+            let name = kept_name(pool, name);
+            Some(Attribute { name, content })
+        }
+        RawAttribute::Frames { .. } => None,
+    }
+}
+
+/// The attributes that are kept, in order.
+fn kept_of(
+    alloc: Global,
+    pool: &Pool,
+    attributes: Items<RawAttribute>,
+) -> Result<Items<Attribute>, Memory>
     ensures { IfOk result (λ kept. kept ≡ flat_map (kept_in pool.now) attributes) }
 {
     let mut attributes = attributes;
     let mut kept = Vec::new(alloc);
     while let Some(attribute) = attributes.pop() {
-        if let RawAttribute::Kept(Attribute { name, content }) = attribute {
-            let name = kept_name(pool, name);
-            kept.push(Attribute { name, content })?;
+        if let Some(attribute) = kept_in(pool, attribute) {
+            kept.push(attribute)?;
         }
     }
     kept.reverse();

@@ -89,7 +89,10 @@ pub(crate) fn frames_of(
 {
     match whole_frames(alloc, raws, pool, first) {
         Ok(whole) => frames_at(alloc, code.offsets.as_slice(), whole.as_slice()),
-        Err(ClassFault::Memory) => Err(Memory),
-        Err(_) => unreachable!(),
+        Err(fault) => match fault {
+            ClassFault::Memory => Err(Memory),
+            ClassFault::Layout { .. } => unreachable!(),
+            ClassFault::Reference { .. } => unreachable!(),
+        },
     }
 }
