@@ -47,9 +47,9 @@ starts_or [] x = inr (λ s. let e = s.1 in cc)
 starts_or (y ∷ xs) x = elim (cases_order y x) [
   | inl e ↦ inl (0, ap (λ (z : ℕ). Some z) e)
   | inr apart ↦ elim (starts_or xs x) [
-      | inl s ↦ inl (suc s.0, s.1)
-      | inr none ↦ inr (λ s. elsewhere s.0 y xs x apart none s.1)
-    ]
+    | inl s ↦ inl (suc s.0, s.1)
+    | inr none ↦ inr (λ s. elsewhere s.0 y xs x apart none s.1)
+  ]
 ]
 
 pub starts : (xs : List ℕ) (x : ℕ) → ((Starts xs x → ⊥) → ⊥) → Starts xs x

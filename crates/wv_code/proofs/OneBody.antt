@@ -283,9 +283,9 @@ one_frame offsets raw a b ascend h k =
     let stack : a.frame.stack ≡ b.frame.stack = one_types offsets raw.frame.stack a.frame.stack b.frame.stack ascend h.2 k.2 in
     let flag : a.frame.this_uninitialized ≡ b.frame.this_uninitialized = sym h.3 ∙ k.3 in
     let frames : a.frame ≡ b.frame =
-        ap (λ (z : List VType). record { locals = z; stack = a.frame.stack; this_uninitialized = a.frame.this_uninitialized }) locals
-        ∙ ap (λ (z : List VType). record { locals = b.frame.locals; stack = z; this_uninitialized = a.frame.this_uninitialized }) stack
-        ∙ ap (λ (z : Bool). record { locals = b.frame.locals; stack = b.frame.stack; this_uninitialized = z }) flag
+    ap (λ (z : List VType). record { locals = z; stack = a.frame.stack; this_uninitialized = a.frame.this_uninitialized }) locals
+    ∙ ap (λ (z : List VType). record { locals = b.frame.locals; stack = z; this_uninitialized = a.frame.this_uninitialized }) stack
+    ∙ ap (λ (z : Bool). record { locals = b.frame.locals; stack = b.frame.stack; this_uninitialized = z }) flag
     in
     ap (λ (z : ℕ). record { at = z; frame = a.frame }) at ∙ ap (λ (z : Frame). record { at = b.at; frame = z }) frames
 

@@ -34,4 +34,6 @@ pub use splitting::{RawCode, split_code};
 pub use writing::write_insns;
 
 #[cfg(test)]
+mod body_tests;
+#[cfg(test)]
 mod tests;

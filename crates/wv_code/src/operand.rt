@@ -58,10 +58,12 @@ pub(crate) fn member_insn(pool: &Pool, op: u8, number: u16) -> Result<Insn, Memo
 {
     match constant_at(pool, number)? {
         Some(Const::Field(member)) => Ok(reference(op, member, false)),
-        Some(Const::Method {
-            reference: member,
-            interface,
-        }) => Ok(reference(op, member, interface)),
+        Some(
+            Const::Method {
+                reference: member,
+                interface,
+            },
+        ) => Ok(reference(op, member, interface)),
         _ => unreachable!(),
     }
 }
@@ -75,10 +77,12 @@ pub(crate) fn interface_method(pool: &Pool, number: u16) -> Result<MemberReferen
     // The entries: each number names what its place needs.
     let _entries = pool.entries();
     match constant_at(pool, number)? {
-        Some(Const::Method {
-            reference,
-            interface: true,
-        }) => Ok(reference),
+        Some(
+            Const::Method {
+                reference,
+                interface: true,
+            },
+        ) => Ok(reference),
         _ => unreachable!(),
     }
 }
@@ -89,11 +93,13 @@ pub(crate) fn site_insn(pool: &Pool, number: u16) -> Result<Insn, Memory>
     ensures { IfOk result (λ i. (offsets : List ℕ) (at : ℕ) → Means pool.now offsets at (raws.Dynamic number) i) }
 {
     match constant_at(pool, number)? {
-        Some(Const::InvokeDynamic {
-            bootstrap,
-            name,
-            descriptor,
-        }) => Ok(Insn::Site {
+        Some(
+            Const::InvokeDynamic {
+                bootstrap,
+                name,
+                descriptor,
+            },
+        ) => Ok(Insn::Site {
             bootstrap,
             name,
             descriptor,

@@ -83,21 +83,35 @@ fn handle_at(pool: &Pool, kind: u8, number: u16) -> Result<Option<Const>, Memory
     ensures { IfOk result (λ found. found ≡ handle pool.now kind (entry_of pool.now number)) }
 {
     match pool.entry(number) {
-        Some(PoolEntry::Field { class, name_and_type }) => {
-            handle_of(pool, kind, *class, *name_and_type, false)
-        }
-        Some(PoolEntry::Method { class, name_and_type }) => {
-            handle_of(pool, kind, *class, *name_and_type, false)
-        }
-        Some(PoolEntry::InterfaceMethod { class, name_and_type }) => {
-            handle_of(pool, kind, *class, *name_and_type, true)
-        }
+        Some(
+            PoolEntry::Field {
+                class,
+                name_and_type,
+            },
+        ) => { handle_of(pool, kind, *class, *name_and_type, false) }
+        Some(
+            PoolEntry::Method {
+                class,
+                name_and_type,
+            },
+        ) => { handle_of(pool, kind, *class, *name_and_type, false) }
+        Some(
+            PoolEntry::InterfaceMethod {
+                class,
+                name_and_type,
+            },
+        ) => { handle_of(pool, kind, *class, *name_and_type, true) }
         _ => Ok(None),
     }
 }
 
 /// The constant of an entry that names a member.
-fn member_constant(pool: &Pool, class: u16, pair: u16, interface: bool) -> Result<Option<Const>, Memory>
+fn member_constant(
+    pool: &Pool,
+    class: u16,
+    pair: u16,
+    interface: bool,
+) -> Result<Option<Const>, Memory>
     ensures { IfOk result (λ found. found ≡ option_map (λ m. Const.Method m interface) (member pool.now class pair)) }
 {
     Ok(member_at(pool, class, pair)?.map(|reference| Const::Method {
@@ -136,23 +150,27 @@ fn constant_in(pool: &Pool, entry: &PoolEntry) -> Result<Option<Const>, Memory>
         PoolEntry::Double(bits) => Ok(Some(Const::Double(*bits))),
         PoolEntry::Class { name } => Ok(text_at(pool, *name)?.map(Const::Class)),
         PoolEntry::String { text } => Ok(text_at(pool, *text)?.map(Const::String)),
-        PoolEntry::Field { class, name_and_type } => {
-            Ok(member_at(pool, *class, *name_and_type)?.map(Const::Field))
-        }
-        PoolEntry::Method { class, name_and_type } => {
-            member_constant(pool, *class, *name_and_type, false)
-        }
-        PoolEntry::InterfaceMethod { class, name_and_type } => {
-            member_constant(pool, *class, *name_and_type, true)
-        }
+        PoolEntry::Field {
+            class,
+            name_and_type,
+        } => { Ok(member_at(pool, *class, *name_and_type)?.map(Const::Field)) }
+        PoolEntry::Method {
+            class,
+            name_and_type,
+        } => { member_constant(pool, *class, *name_and_type, false) }
+        PoolEntry::InterfaceMethod {
+            class,
+            name_and_type,
+        } => { member_constant(pool, *class, *name_and_type, true) }
         PoolEntry::NameAndType { name, descriptor } => pair_constant(pool, *name, *descriptor),
         PoolEntry::MethodHandle { kind, reference } => handle_at(pool, *kind, *reference),
         PoolEntry::MethodType { descriptor } => {
             Ok(text_at(pool, *descriptor)?.map(Const::MethodType))
         }
-        PoolEntry::InvokeDynamic { bootstrap, name_and_type } => {
-            site_constant(pool, *bootstrap, *name_and_type)
-        }
+        PoolEntry::InvokeDynamic {
+            bootstrap,
+            name_and_type,
+        } => { site_constant(pool, *bootstrap, *name_and_type) }
         PoolEntry::Unusable => Ok(None),
     }
 }

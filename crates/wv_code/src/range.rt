@@ -42,12 +42,7 @@ fn catch(pool: &Pool, number: u16) -> Result<Option<Name>, Memory>
 }
 
 /// The range that the bytes mean, in code of so many bytes whose instructions start at these offsets.
-fn range_of(
-    pool: &Pool,
-    offsets: &[u32],
-    len: u32,
-    raw: RawRange,
-) -> Result<ExceptionRange, Memory>
+fn range_of(pool: &Pool, offsets: &[u32], len: u32, raw: RawRange) -> Result<ExceptionRange, Memory>
     requires ascend { IsStrictlyIncreasing offsets.now }
     requires within { AllByRecursion (λ o. o < len) offsets.now }
     requires sound { (place : ℕ) → RangeBreaks pool.now offsets.now len raw place → ⊥ }

@@ -13,7 +13,12 @@ use wv_pool::Pool;
 /// Specification 4.7.3 and 4.7.4). The place of a fault counts from the content's start on: `Layout`
 /// comes where the bytes are no such content, and else `Reference` at the first item that breaks what
 /// it must meet.
-pub fn read_code(alloc: Global, bytes: &[u8], pool: &Pool, first: &Frame) -> Result<Body, ClassFault>
+pub fn read_code(
+    alloc: Global,
+    bytes: &[u8],
+    pool: &Pool,
+    first: &Frame,
+) -> Result<Body, ClassFault>
     requires few { length bytes.now < 2 ^ 32 }
     // `is_start` tests it.
     requires start { IsStart first.now }

@@ -11,7 +11,12 @@ use wv_base::{ClassFault, Frame, Memory};
 use wv_pool::Pool;
 
 /// STUB.
-pub fn read_layout(alloc: Global, bytes: &[u8], pool: &Pool, missing: u32) -> Result<RawBody, ClassFault>
+pub fn read_layout(
+    alloc: Global,
+    bytes: &[u8],
+    pool: &Pool,
+    missing: u32,
+) -> Result<RawBody, ClassFault>
     requires { length bytes.now + missing < 2 ^ 32 }
     ensures found { IfOk result (λ raw. IsContent pool.now raw bytes.now × (missing ≡ 0)) }
     ensures only { (raw : RawBody) → IsContent pool.now raw bytes.now → missing ≡ 0 → GivesRaw result raw }
@@ -22,11 +27,21 @@ pub fn read_layout(alloc: Global, bytes: &[u8], pool: &Pool, missing: u32) -> Re
 }
 
 /// STUB.
-pub fn first_break(alloc: Global, pool: &Pool, first: &Frame, raw: &RawBody) -> Result<Option<usize>, Memory>
+pub fn first_break(
+    alloc: Global,
+    pool: &Pool,
+    first: &Frame,
+    raw: &RawBody,
+) -> Result<Option<usize>, Memory>
     requires { (bytes : List ℕ) × IsContent pool.now raw.now bytes }
     ensures found { IfOk result (λ place. IfSome place (FirstBreak pool.now first.now raw.now)) }
     ensures none { IfOk result (λ place. IfNone place (IsSound pool.now first.now raw.now)) }
 {
-    let _unused = (alloc, pool.entries().len(), first.this_uninitialized, raw.len);
+    let _unused = (
+        alloc,
+        pool.entries().len(),
+        first.this_uninitialized,
+        raw.len,
+    );
     Err(Memory)
 }

@@ -60,7 +60,12 @@ pub(crate) fn landing(offsets: &[u32], at: u32, distance: i32) -> u32
     }
 }
 
-pub(crate) fn landings(alloc: Global, offsets: &[u32], at: u32, distances: &[i32]) -> Result<Targets, Memory>
+pub(crate) fn landings(
+    alloc: Global,
+    offsets: &[u32],
+    at: u32,
+    distances: &[i32],
+) -> Result<Targets, Memory>
     requires ascend { IsStrictlyIncreasing offsets.now }
     requires land { (k : ℕ) (distance : ℤ) → slice_get distances.now k ≡ Some distance → (Lands offsets.now at distance → ⊥) → ⊥ }
     ensures { IfOk result (AllLead offsets.now at distances.now) }
@@ -72,7 +77,12 @@ pub(crate) fn landings(alloc: Global, offsets: &[u32], at: u32, distances: &[i32
     Ok(found)
 }
 
-pub(crate) fn case_landings(alloc: Global, offsets: &[u32], at: u32, raws: &[RawCase]) -> Result<Cases, Memory>
+pub(crate) fn case_landings(
+    alloc: Global,
+    offsets: &[u32],
+    at: u32,
+    raws: &[RawCase],
+) -> Result<Cases, Memory>
     requires ascend { IsStrictlyIncreasing offsets.now }
     requires land { (k : ℕ) (raw : RawCase) → slice_get raws.now k ≡ Some raw → (Lands offsets.now at raw.offset → ⊥) → ⊥ }
     ensures { IfOk result (AllCasesLead offsets.now at raws.now) }
