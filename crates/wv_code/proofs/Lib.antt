@@ -19,3 +19,5 @@ pub mod Meanings
 pub mod Framed
 pub mod Tables
 pub mod OneBody
+pub mod AllowedConstants
+pub mod Shaped

@@ -20,6 +20,7 @@ use Rattle.wv_base.specs.declared.insn.Case.{Case}
 use Rattle.wv_base.specs.declared.insn.Insn.{Insn}
 use Rattle.wv_base.specs.declared.insn.Insn.TheVariants as insn
 use Rattle.wv_base.specs.Opcodes.{putfield, invokeinterface}
+use Rattle.wv_base.specs.Descriptor.{HasWords}
 use Rattle.wv_insn.specs.declared.raw.Raw.{Raw}
 use Rattle.wv_insn.specs.declared.raw.Raw.TheVariants as raw
 use Rattle.wv_insn.specs.declared.raw.RawCase.{RawCase}
@@ -36,7 +37,7 @@ use Rattle.wv_code.proofs.Indices.{one_index}
 use Rattle.wv_code.proofs.Lists.{AllByRecursion-at}
 use Rattle.wv_code.proofs.Operands.{field_constant, method_constant}
 
-one_value : {A : Type 0} (o : Option A) (a b : A) → o ≡ Some a → o ≡ Some b → a ≡ b
+pub one_value : {A : Type 0} (o : Option A) (a b : A) → o ≡ Some a → o ≡ Some b → a ≡ b
 one_value o a b e f = some_is a b (sym e ∙ f)
 
 -- ---- indices
@@ -79,68 +80,69 @@ one_class pool n a b e f = let same : ◌≡◌ {A = Const} (constants.Class a) 
 -- ---- instructions, by their raw ones
 
 module _ (pool : List PoolEntry) (offsets : List ℕ) (at : ℕ) where
-  plain_is : (op : ℕ) (i : Insn) → Means pool offsets at (raw.Plain op) i → i ≡ insn.Plain op
+  pub plain_is : (op : ℕ) (i : Insn) → Means pool offsets at (raw.Plain op) i → i ≡ insn.Plain op
   plain_is op (insn.Plain o) h = ap (λ (z : ℕ). insn.Plain z) (sym h)
   plain_is op _ h = absurd h
 
-  push_is : (op : ℕ) (value : ℤ) (i : Insn) → Means pool offsets at (raw.Push op value) i → i ≡ insn.Push op value
+  pub push_is : (op : ℕ) (value : ℤ) (i : Insn) → Means pool offsets at (raw.Push op value) i → i ≡ insn.Push op value
   push_is op value (insn.Push o v) h = cc
   push_is op value _ h = absurd h
 
-  load_is : (op n : ℕ) (i : Insn) → Means pool offsets at (raw.Load op n) i → (c : Const) × (i ≡ insn.Load op c) × (constant_of pool n ≡ Some c)
+  pub load_is : (op n : ℕ) (i : Insn) → Means pool offsets at (raw.Load op n) i → (c : Const) × (i ≡ insn.Load op c) × (constant_of pool n ≡ Some c)
   load_is op n (insn.Load o c) h = (c, ap (λ (z : ℕ). insn.Load z c) (sym h.0), h.1.0)
   load_is op n _ h = absurd h
 
-  local_is : (op slot : ℕ) (wide : Bool) (i : Insn) → Means pool offsets at (raw.Local op slot wide) i → i ≡ insn.Local op slot wide
+  pub local_is : (op slot : ℕ) (wide : Bool) (i : Insn) → Means pool offsets at (raw.Local op slot wide) i → i ≡ insn.Local op slot wide
   local_is op slot wide (insn.Local o s w) h = cc
   local_is op slot wide _ h = absurd h
 
-  inc_is : (slot : ℕ) (by : ℤ) (wide : Bool) (i : Insn) → Means pool offsets at (raw.Inc slot by wide) i → i ≡ insn.Inc slot by wide
+  pub inc_is : (slot : ℕ) (by : ℤ) (wide : Bool) (i : Insn) → Means pool offsets at (raw.Inc slot by wide) i → i ≡ insn.Inc slot by wide
   inc_is slot by wide (insn.Inc s b w) h = cc
   inc_is slot by wide _ h = absurd h
 
-  branch_is : (op : ℕ) (distance : ℤ) (i : Insn) → Means pool offsets at (raw.Branch op distance) i → (to : ℕ) × (i ≡ insn.Branch op to) × Leads offsets at distance to
+  pub branch_is : (op : ℕ) (distance : ℤ) (i : Insn) → Means pool offsets at (raw.Branch op distance) i → (to : ℕ) × (i ≡ insn.Branch op to) × Leads offsets at distance to
   branch_is op distance (insn.Branch o to) h = (to, ap (λ (z : ℕ). insn.Branch z to) (sym h.0), h.1)
   branch_is op distance _ h = absurd h
 
-  table_is : (low high other : ℤ) (distances : List ℤ) (i : Insn) → Means pool offsets at (raw.Table low high other distances) i
+  pub table_is : (low high other : ℤ) (distances : List ℤ) (i : Insn) → Means pool offsets at (raw.Table low high other distances) i
       → (to : ℕ) × (tos : List ℕ) × (i ≡ insn.Table low to tos) × Leads offsets at other to × AllLead offsets at distances tos
   table_is low high other distances (insn.Table l to tos) h = (to, tos, ap (λ (z : ℤ). insn.Table z to tos) (sym h.0), h.2, h.3)
   table_is low high other distances _ h = absurd h
 
-  lookup_is : (other : ℤ) (raws : List RawCase) (i : Insn) → Means pool offsets at (raw.Lookup other raws) i → (to : ℕ) × (cases : List Case) × (i ≡ insn.Lookup to cases) × Leads offsets at other to × AllCasesLead offsets at raws cases
+  pub lookup_is : (other : ℤ) (raws : List RawCase) (i : Insn) → Means pool offsets at (raw.Lookup other raws) i → (to : ℕ) × (cases : List Case) × (i ≡ insn.Lookup to cases) × Leads offsets at other to × AllCasesLead offsets at raws cases
   lookup_is other raws (insn.Lookup to cases) h = (to, cases, refl, h.0, h.1)
   lookup_is other raws _ h = absurd h
 
   -- a member with its flag
-  abbrev member_insn : ℕ → MemberReference → Bool → Insn
+  abbrev pub member_insn : ℕ → MemberReference → Bool → Insn
   member_insn op m interface = insn.Reference op m.owner m.name m.descriptor interface
 
-  reference_is : (op n : ℕ) (i : Insn) → Means pool offsets at (raw.Reference op n) i → (m : MemberReference) × (interface : Bool) × (i ≡ member_insn op m interface) × (constant_of pool n ≡ Some (member_constant op m interface)) × IsFlagged op interface
+  pub reference_is : (op n : ℕ) (i : Insn) → Means pool offsets at (raw.Reference op n) i → (m : MemberReference) × (interface : Bool) × (i ≡ member_insn op m interface) × (constant_of pool n ≡ Some (member_constant op m interface)) × IsFlagged op interface
   reference_is op n (insn.Reference o owner name descriptor interface) h =
       let m : MemberReference = record { owner = owner; name = name; descriptor = descriptor } in
       (m, interface, ap (λ (z : ℕ). member_insn z m interface) (sym h.0), subst (λ (z : ℕ). constant_of pool n ≡ Some (member_constant z m interface)) (sym h.0) h.1.0, subst (λ (z : ℕ). IsFlagged z interface) (sym h.0) h.2)
   reference_is op n _ h = absurd h
 
-  interface_is : (n count last : ℕ) (i : Insn) → Means pool offsets at (raw.Interface n count last) i → (m : MemberReference) × (interface : Bool) × (i ≡ member_insn invokeinterface m interface) × (constant_of pool n ≡ Some (member_constant invokeinterface m interface))
+  pub interface_is : (n count last : ℕ) (i : Insn) → Means pool offsets at (raw.Interface n count last) i
+      → (m : MemberReference) × (interface : Bool) × (i ≡ member_insn invokeinterface m interface) × (constant_of pool n ≡ Some (member_constant invokeinterface m interface)) × ((words : ℕ) × HasWords m.descriptor words × (count ≡ words + 1))
   interface_is n count last (insn.Reference o owner name descriptor interface) h =
       let m : MemberReference = record { owner = owner; name = name; descriptor = descriptor } in
-      (m, interface, ap (λ (z : ℕ). member_insn z m interface) h.0, subst (λ (z : ℕ). constant_of pool n ≡ Some (member_constant z m interface)) h.0 h.1.0)
+      (m, interface, ap (λ (z : ℕ). member_insn z m interface) h.0, subst (λ (z : ℕ). constant_of pool n ≡ Some (member_constant z m interface)) h.0 h.1.0, h.2)
   interface_is n count last _ h = absurd h
 
-  site_is : (n : ℕ) (i : Insn) → Means pool offsets at (raw.Dynamic n) i → (b : ℕ) × (name : List ℕ) × (d : List ℕ) × (i ≡ insn.Site b name d) × (constant_of pool n ≡ Some (constants.InvokeDynamic b name d))
+  pub site_is : (n : ℕ) (i : Insn) → Means pool offsets at (raw.Dynamic n) i → (b : ℕ) × (name : List ℕ) × (d : List ℕ) × (i ≡ insn.Site b name d) × (constant_of pool n ≡ Some (constants.InvokeDynamic b name d))
   site_is n (insn.Site b name d) h = (b, name, d, refl, h.0)
   site_is n _ h = absurd h
 
-  class_is : (op n : ℕ) (i : Insn) → Means pool offsets at (raw.Class op n) i → (c : List ℕ) × (i ≡ insn.Class op c) × (constant_of pool n ≡ Some (constants.Class c))
+  pub class_is : (op n : ℕ) (i : Insn) → Means pool offsets at (raw.Class op n) i → (c : List ℕ) × (i ≡ insn.Class op c) × (constant_of pool n ≡ Some (constants.Class c))
   class_is op n (insn.Class o c) h = (c, ap (λ (z : ℕ). insn.Class z c) (sym h.0), h.1.0)
   class_is op n _ h = absurd h
 
-  array_is : (kind : ℕ) (i : Insn) → Means pool offsets at (raw.NewArray kind) i → i ≡ insn.NewArray kind
+  pub array_is : (kind : ℕ) (i : Insn) → Means pool offsets at (raw.NewArray kind) i → i ≡ insn.NewArray kind
   array_is kind (insn.NewArray k) h = ap (λ (z : ℕ). insn.NewArray z) (sym h)
   array_is kind _ h = absurd h
 
-  multi_is : (n dimensions : ℕ) (i : Insn) → Means pool offsets at (raw.MultiArray n dimensions) i → (c : List ℕ) × (i ≡ insn.MultiArray c dimensions) × (constant_of pool n ≡ Some (constants.Class c))
+  pub multi_is : (n dimensions : ℕ) (i : Insn) → Means pool offsets at (raw.MultiArray n dimensions) i → (c : List ℕ) × (i ≡ insn.MultiArray c dimensions) × (constant_of pool n ≡ Some (constants.Class c))
   multi_is n dimensions (insn.MultiArray c d) h = (c, ap (λ (z : ℕ). insn.MultiArray c z) (sym h.1), h.0.0)
   multi_is n dimensions _ h = absurd h
 

@@ -12,7 +12,7 @@ use Rattle.wv_code.specs.Meaning.{Leads, AllLead, Means}
 use Rattle.wv_code.proofs.Leading.{lead_lengths}
 
 -- the last of the keys from low to high
-high_is : (low high : ℤ) (count : ℕ) → (high <ℤ low → ⊥) → count ≡ targets low high → high ≡ last_key low count
+pub high_is : (low high : ℤ) (count : ℕ) → (high <ℤ low → ⊥) → count ≡ targets low high → high ≡ last_key low count
 unfolding targets
 high_is low high count ne e = grind (arith, ints)
 

@@ -5,6 +5,7 @@ ghost use Rattle.wv_frames.specs.declared.raw.RawFrame.{RawFrame};
 ghost use Rattle.wv_code.specs.Body.{frames_in, kept_name, kept_in, IsBodyOf, IsPlaced, IsStart};
 ghost use Rattle.wv_code.specs.Breaks.{IsSound};
 ghost use Rattle.wv_code.specs.Content.{IsContent};
+ghost use Rattle.wv_code.specs.Formed.{AreFormed};
 
 use crate::frame_index::frames_of;
 use crate::instruction::insns_of;
@@ -80,8 +81,12 @@ pub fn body_of(alloc: Global, pool: &Pool, first: &Frame, raw: RawBody) -> Resul
     requires content { (bytes : List ℕ) × IsContent pool.now raw bytes }
     requires sound { IsSound pool.now first.now raw }
     requires start { IsStart first.now }
-    ensures { IfOk result (IsBodyOf pool.now first.now raw) }
+    ensures means { IfOk result (IsBodyOf pool.now first.now raw) }
+    // So `layout` and `write_insns` take them.
+    ensures formed { IfOk result (λ body. AreFormed body.insns) }
 {
+    // The entries: each number names what its place needs.
+    let _entries = pool.entries();
     let RawBody {
         max_stack,
         max_locals,

@@ -1,6 +1,7 @@
 //! Reading the content of a Code attribute.
 ghost use Rattle.std.specs.Prelude.{◌<◌, ◌^◌, length, IfOk, IfErr};
 ghost use Rattle.wv_base.specs.declared.class_file.Body.{Body};
+ghost use Rattle.wv_code.specs.Formed.{AreFormed};
 ghost use Rattle.wv_code.specs.Body.{Spells, IsStart, GivesBody, BodyBreaks};
 
 use crate::body::body_of;
@@ -25,6 +26,8 @@ pub fn read_code(
     ensures found { IfOk result (Spells pool.now first.now bytes.now) }
     // What the bytes spell is found, unless memory runs out.
     ensures only { (body : Body) → Spells pool.now first.now bytes.now body → GivesBody result body }
+    // So `layout` and `write_insns` take them.
+    ensures formed { IfOk result (λ body. AreFormed body.insns) }
     ensures fault { IfErr result (BodyBreaks pool.now first.now bytes.now) }
 {
     let raw = read_layout(alloc, bytes, pool, 0)?;

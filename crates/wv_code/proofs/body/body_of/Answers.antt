@@ -1,4 +1,5 @@
 use Rattle.wv_code.specs.Breaks.{insn, range}
+use Rattle.wv_code.proofs.Shaped.{formed}
 use Rattle.wv_code.proofs.Starts.{follow_below, follow_ascends}
 use Rattle.wv_code.proofs.Tables.{once, frames_layout, frames_sound}
 use Rattle.wv_code.proofs.body.body_of.Goals as goal
@@ -34,3 +35,9 @@ frames_of-requires-clause-layout c =
 
 pub frames_of-requires-clause-sound : goal.frames_of-requires-clause-sound
 frames_of-requires-clause-sound c = rw (c.frames_in.ensures, c.as_slice-3.ensures) (frames_sound c.args.pool.now c.args.first.now c.args.raw c.requires.sound)
+
+pub returns-clause-formed : goal.returns-clause-formed
+returns-clause-formed c =
+    let content = c.requires.content.1 in
+    formed c.args.pool.now content.code c.args.raw.code.raws c.args.raw.code.offsets c.in_ok-insns.insns c.args.raw.len c.entries-entries.ensures.sound content.follow (rw (c.as_slice.ensures, c.as_slice-offsets.ensures) at c.in_ok-insns.ensures)
+    (λ k r at place here there breaks. c.requires.sound _ (insn k r at place here there breaks))

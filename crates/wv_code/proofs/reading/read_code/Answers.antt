@@ -25,4 +25,4 @@ returns-clause-only c = λ body spells.
     let same : c.in_ok-raw.raw ≡ spells.raw = c.in_ok-raw.ensures.only spells.raw spells.content refl in
     let means : IsBodyOf c.args.pool.now c.args.first.now c.in_ok-raw.raw body = subst (λ (r : RawBody). IsBodyOf c.args.pool.now c.args.first.now r body) (sym same) spells.means in
     one_body c.args.pool.now c.args.first.now c.in_ok-raw.raw c.in_ok-body_of.field-0 body (follow_ascends content.code 0 c.in_ok-raw.raw.code.raws c.in_ok-raw.raw.code.offsets c.in_ok-raw.raw.len content.follow)
-    (follow_below content.code 0 c.in_ok-raw.raw.code.raws c.in_ok-raw.raw.code.offsets c.in_ok-raw.raw.len content.follow) c.in_ok-body_of.ensures means
+    (follow_below content.code 0 c.in_ok-raw.raw.code.raws c.in_ok-raw.raw.code.offsets c.in_ok-raw.raw.len content.follow) c.in_ok-body_of.ensures.means means
