@@ -1,7 +1,6 @@
 -- What the numbers of a sound pool name, another pool may hold.
-use Rattle.std.proofs.Common.{◌≡◌, ◌≢◌, ℕ, zero, suc, ◌+◌, ◌<◌, ◌≤◌, ◌^◌, Bool, true, false, List, [], ◌∷◌, length, Option, Some, None, refl, sym, ap, subst, ◌∙◌, ◌⊎◌, inl, inr, arith}
+use Rattle.std.proofs.Common.{◌≡◌, ℕ, zero, suc, ◌≤◌, Bool, true, false, List, [], ◌∷◌, Option, Some, None, refl, sym, ap, subst, ◌∙◌, ◌⊎◌, inl, inr}
 use Rattle.std.specs.Prelude.{slice_get, IsSomeAnd, IfSome, IsTrue}
-use Rattle.std.specs.Option.{option_map}
 use Rattle.wv_base.specs.declared.class_file.PoolEntry.{PoolEntry}
 use Rattle.wv_base.specs.declared.class_file.PoolEntry.TheVariants as entries
 use Rattle.wv_base.specs.declared.constant.Const.{Const}
@@ -11,9 +10,9 @@ use Rattle.wv_base.specs.Names.{is_unqualified}
 use Rattle.wv_base.specs.Descriptor.{IsFieldDescriptor, IsMethodDescriptor, IsClassConstant}
 use Rattle.wv_pool.specs.Reading.{is_wide}
 use Rattle.wv_pool.specs.Entries.{IsEntry, AreSlots}
-use Rattle.wv_pool.specs.References.{entry_of, text_in, text_of, class_of, pair_in, pair_of, pair_name, IsText, IsFieldPair, IsMethodPair, HasAngle, IsInit, IsSpecial, KindFits, IsMember, IsSound, IsPool}
+use Rattle.wv_pool.specs.References.{entry_of, text_in, text_of, class_of, pair_in, pair_of, pair_name, IsText, IsFieldPair, IsMethodPair, HasAngle, IsInit, IsSpecial, KindFits, IsSound, IsPool}
 use Rattle.wv_pool.specs.Constants.{class_name, both, pair_texts, named_pair, member_of, member, handle, constant_in, constant_of}
-use Rattle.wv_pool.specs.Allowed.{IsShort, IsClassText, IsPairText, IsFieldText, IsMethodText, IsFieldReference, IsMethodReference, IsCalled, IsHandle, IsAllowed}
+use Rattle.wv_pool.specs.Allowed.{IsShort, IsClassText, IsPairText, IsFieldText, IsMethodText, IsFieldReference, IsMethodReference, IsCalled, IsAllowed}
 use Rattle.wv_pool.proofs.Behind.{some_is, map_some, then_some}
 use Rattle.wv_pool.proofs.SoundPools.{some_and, pair_entry, class_entry, sound_at}
 

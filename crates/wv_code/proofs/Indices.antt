@@ -1,5 +1,5 @@
 -- The indices of instructions, by offsets and by distances.
-use Rattle.std.proofs.Common.{◌≡◌, ℕ, zero, suc, ◌+◌, ◌<◌, ◌≤◌, ℤ, List, [], ◌∷◌, length, get_or, Some, None, refl, sym, ap, subst, ◌∙◌, ◌⊎◌, inl, inr, arith, add-one}
+use Rattle.std.proofs.Common.{◌≡◌, ℕ, zero, suc, ◌<◌, ◌≤◌, ℤ, List, [], ◌∷◌, length, get_or, Some, ap, ◌∙◌, ◌⊎◌, inl, inr, arith, add-one}
 use Rattle.std.specs.Prelude.{slice_get, pos, ◌+ℤ◌}
 use Rattle.std.specs.Int.{w32, FitsUnsigned}
 use Rattle.std.specs.Int.RustNames.{unsigned_abs}

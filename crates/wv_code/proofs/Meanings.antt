@@ -1,8 +1,6 @@
 -- The instructions that bytes mean, as a loop goes over them.
-use Rattle.std.proofs.Common.{◌≡◌, ℕ, zero, suc, ◌+◌, ◌<◌, ◌≤◌, List, [], ◌∷◌, ◌++◌, length, get_or, take, Some, sym, ap, subst, ◌∙◌, arith}
-use Rattle.std.specs.Prelude.{slice_get}
+use Rattle.std.proofs.Common.{◌≡◌, ℕ, zero, suc, ◌+◌, ◌<◌, ◌≤◌, List, [], ◌∷◌, ◌++◌, length, get_or, take, sym, ap, ◌∙◌, arith}
 use Rattle.std.proofs.lemmas.List.{take_all, take_more}
-use Rattle.std.proofs.lemmas.Option.{slice_get-get_or}
 use Rattle.wv_base.specs.declared.class_file.PoolEntry.{PoolEntry}
 use Rattle.wv_base.specs.declared.insn.Insn.{Insn}
 use Rattle.wv_insn.specs.declared.raw.Raw.{Raw}
@@ -10,7 +8,6 @@ use Rattle.wv_insn.specs.Spelling.{IsInstruction}
 use Rattle.wv_code.specs.Code.{Follow, AllMean}
 use Rattle.wv_code.specs.Meaning.{Means}
 use Rattle.wv_code.proofs.Follows.{mean_push}
-use Rattle.wv_code.proofs.Starts.{follow_many}
 
 -- one instruction more
 pub means_on : (pool : List PoolEntry) (offsets : List ℕ) (raws : List Raw) (ats : List ℕ) (k : ℕ) (r : Raw) (insns : List Insn) (i : Insn) → k < length raws → length raws ≡ length ats → r ≡ get_or raws k r

@@ -1,7 +1,6 @@
 -- A content means one body at most.
-use Rattle.std.proofs.Common.{◌≡◌, ℕ, ◌+◌, ◌<◌, ◌≤◌, ℤ, Bool, true, false, List, [], ◌∷◌, length, get_or, Option, Some, None, refl, sym, ap, subst, ◌∙◌, ◌⊎◌, inl, inr, arith}
-use Rattle.std.specs.Prelude.{slice_get, pos}
-use Rattle.std.specs.List.{flat_map, AllByRecursion}
+use Rattle.std.proofs.Common.{◌≡◌, ℕ, ◌+◌, ◌<◌, ℤ, Bool, false, List, [], ◌∷◌, get_or, Option, Some, None, refl, sym, ap, subst, ◌∙◌, inl, inr, arith}
+use Rattle.std.specs.List.{AllByRecursion}
 use Rattle.std.specs.List.Sorted.{IsStrictlyIncreasing}
 use Rattle.std.proofs.lemmas.Bool.{cases_lt}
 use Rattle.std.proofs.lemmas.Option.{slice_get-get_or, slice_get_within, get_or_from_slice_get}
@@ -29,7 +28,7 @@ use Rattle.wv_pool.proofs.Behind.{some_is}
 use Rattle.wv_frames.specs.Whole.{frames_from}
 use Rattle.wv_code.specs.declared.raw_body.RawRange.{RawRange}
 use Rattle.wv_code.specs.declared.raw_body.RawBody.{RawBody}
-use Rattle.wv_code.specs.Body.{IsAt, IsEnd, Catches, IsRangeOf, AreRangesOf, IsTypeOf, AreTypesOf, IsFrameOf, AreFramesOf, frames_in, kept_in, IsBodyOf}
+use Rattle.wv_code.specs.Body.{IsAt, IsEnd, Catches, IsRangeOf, AreRangesOf, IsTypeOf, AreTypesOf, IsFrameOf, AreFramesOf, frames_in, IsBodyOf}
 use Rattle.wv_code.specs.Code.{AllMean}
 use Rattle.wv_code.specs.Constants.{member_constant}
 use Rattle.wv_code.specs.Meaning.{Leads, AllLead, AllCasesLead, IsFlagged, Means}

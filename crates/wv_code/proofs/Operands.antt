@@ -9,19 +9,17 @@ use Rattle.wv_base.specs.declared.class_file.PoolEntry.TheVariants as entries
 use Rattle.wv_base.specs.declared.constant.Const.{Const}
 use Rattle.wv_base.specs.declared.constant.Const.TheVariants as constants
 use Rattle.wv_base.specs.declared.constant.MemberReference.{MemberReference}
-use Rattle.wv_base.specs.declared.insn.Insn.{Insn}
 use Rattle.wv_base.specs.declared.insn.Insn.TheVariants as insn
 use Rattle.wv_base.specs.Opcodes.{putfield, invokevirtual, invokestatic, invokeinterface}
 use Rattle.wv_base.specs.Descriptor.{IsFieldDescriptor, IsMethodDescriptor, HasWords, parameter_words}
-use Rattle.wv_insn.specs.declared.raw.Raw.{Raw}
 use Rattle.wv_insn.specs.declared.raw.Raw.TheVariants as raw
-use Rattle.wv_pool.specs.References.{entry_of, text_of, class_in, class_of, pair_of, IsText, HasAngle, IsPool}
-use Rattle.wv_pool.specs.Constants.{class_name, both, pair_texts, named_pair, member_of, member, constant_in, constant_of}
-use Rattle.wv_pool.proofs.Behind.{some_is, then_some, class_is, interface_entry}
+use Rattle.wv_pool.specs.References.{entry_of, text_of, class_in, pair_of, IsText, HasAngle, IsPool}
+use Rattle.wv_pool.specs.Constants.{class_name, both, pair_texts, member_of, constant_in, constant_of}
+use Rattle.wv_pool.proofs.Behind.{some_is, then_some, interface_entry}
 use Rattle.wv_pool.proofs.SoundPools.{some_and, pair_entry, sound_at}
-use Rattle.wv_code.specs.Constants.{member_constant, constants_in}
-use Rattle.wv_code.specs.Meaning.{NamesConstant, Means}
-use Rattle.wv_code.specs.Breaks.{Loads, Takes, TakesInterface, TakesSite, NamesClass, InsnBreaks, count as not_counted, zero as not_zero}
+use Rattle.wv_code.specs.Constants.{member_constant}
+use Rattle.wv_code.specs.Meaning.{Means}
+use Rattle.wv_code.specs.Breaks.{Loads, Takes, NamesClass, InsnBreaks, count as not_counted, zero as not_zero}
 use Rattle.wv_code.proofs.Shapes.{words_same}
 
 -- what is answered still meets a weaker fact

@@ -1,16 +1,14 @@
 -- What sound ranges mean.
-use Rattle.std.proofs.Common.{◌≡◌, ℕ, ◌+◌, ◌<◌, ◌≤◌, List, [], ◌∷◌, ◌++◌, length, get_or, take, Some, None, sym, ap, subst, ◌∙◌, ◌⊎◌, inl, inr, arith}
-use Rattle.std.specs.Prelude.{slice_get}
+use Rattle.std.proofs.Common.{◌≡◌, ℕ, ◌+◌, ◌<◌, ◌≤◌, List, [], ◌∷◌, ◌++◌, length, get_or, take, None, sym, subst, ◌⊎◌, inl, inr, arith}
 use Rattle.std.specs.List.{AllByRecursion}
 use Rattle.std.specs.List.Sorted.{IsStrictlyIncreasing}
 use Rattle.std.proofs.lemmas.Bool.{cases_eq}
 use Rattle.std.proofs.lemmas.List.{take_more}
-use Rattle.std.proofs.lemmas.Option.{slice_get-get_or, slice_get_within, get_or_from_slice_get}
 use Rattle.wv_base.specs.declared.class_file.PoolEntry.{PoolEntry}
 use Rattle.wv_base.specs.declared.class_file.ExceptionRange.{ExceptionRange}
 use Rattle.wv_pool.specs.Constants.{class_name}
 use Rattle.wv_code.specs.declared.raw_body.RawRange.{RawRange}
-use Rattle.wv_code.specs.Body.{IsAt, IsEnd, Catches, IsRangeOf, AreRangesOf}
+use Rattle.wv_code.specs.Body.{IsRangeOf, AreRangesOf}
 use Rattle.wv_code.specs.Breaks.{Starts, NamesClass}
 use Rattle.wv_code.proofs.Lists.{AllByRecursion-at}
 use Rattle.wv_code.proofs.Indices.{at_least}

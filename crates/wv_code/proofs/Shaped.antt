@@ -1,7 +1,7 @@
 -- Instructions that are read are formed, where no item of them breaks what it must meet.
-use Rattle.std.proofs.Common.{◌≡◌, ℕ, zero, suc, ◌+◌, ◌*◌, ◌<◌, ◌≤◌, ◌^◌, ℤ, Bool, true, false, cond, leb, List, [], ◌∷◌, length, Option, Some, None, refl, sym, ap, subst, ◌∙◌, ◌⊎◌, inl, inr, arith, rules}
+use Rattle.std.proofs.Common.{◌≡◌, ℕ, suc, ◌+◌, ◌*◌, ◌<◌, ◌≤◌, ◌^◌, ℤ, Bool, true, false, cond, leb, List, [], ◌∷◌, length, Option, Some, refl, sym, ap, subst, ◌∙◌, ◌⊎◌, inl, inr, arith, rules}
 use Rattle.std.specs.Prelude.{slice_get, pos, ◌<ℤ◌, ◌≤ℤ◌, FitsSigned}
-use Rattle.std.specs.Int.{w16, w32}
+use Rattle.std.specs.Int.{w32}
 use Rattle.std.specs.List.{AllByRecursion}
 use Rattle.std.proofs.lemmas.Bool.{cases_lt, cases_eq, leb-true, leb-false}
 use Rattle.std.proofs.lemmas.Int.{ints}
@@ -13,7 +13,6 @@ use Rattle.wv_base.specs.declared.form.Form.{Form}
 use Rattle.wv_base.specs.declared.form.Form.TheVariants as form
 use Rattle.wv_base.specs.declared.insn.Case.{Case}
 use Rattle.wv_base.specs.declared.insn.Insn.{Insn}
-use Rattle.wv_base.specs.declared.insn.Insn.TheVariants as insn
 use Rattle.wv_base.specs.Opcodes.{ldc, ldc_w, ldc2_w, getstatic, putfield, invokevirtual, invokestatic, invokeinterface}
 use Rattle.wv_base.specs.Instructions.{form_of}
 use Rattle.wv_insn.specs.declared.raw.Raw.{Raw}
@@ -21,20 +20,19 @@ use Rattle.wv_insn.specs.declared.raw.Raw.TheVariants as raw
 use Rattle.wv_insn.specs.declared.raw.RawCase.{RawCase}
 use Rattle.wv_insn.specs.Spelling.{padding, targets, IsTyped, IsInstruction}
 use Rattle.wv_pool.specs.Allowed.{IsAllowed}
-use Rattle.wv_pool.specs.Constants.{class_name, constant_of}
+use Rattle.wv_pool.specs.Constants.{constant_of}
 use Rattle.wv_pool.specs.References.{IsPool}
 use Rattle.wv_pool.proofs.Behind.{class_is as class_behind}
 use Rattle.wv_code.specs.Breaks.{Loads, Takes, TakesInterface, InsnBreaks, load as not_loaded, table_low, lookup_key, reference as not_taken, interface as not_interface, array as not_array, dimensions as not_dimensions}
 use Rattle.wv_code.specs.Code.{Follow, AllMean}
 use Rattle.wv_code.specs.Constants.{member_constant, constants_in}
-use Rattle.wv_code.specs.Formed.{loaded_words, LoadsWords, TakesMember, dimensions_of, KeysAscend, last_key, IsShaped, IsFormed, AreFormed}
-use Rattle.wv_code.specs.Meaning.{NamesConstant, Leads, AllLead, AllCasesLead, Means}
+use Rattle.wv_code.specs.Formed.{loaded_words, LoadsWords, TakesMember, dimensions_of, KeysAscend, IsShaped, IsFormed, AreFormed}
+use Rattle.wv_code.specs.Meaning.{AllLead, AllCasesLead, Means}
 use Rattle.wv_code.proofs.AllowedConstants.{constant_allowed}
 use Rattle.wv_code.proofs.Forms.{only}
 use Rattle.wv_code.proofs.Leading.{lead_lengths}
-use Rattle.wv_code.proofs.Lists.{AllByRecursion-map}
 use Rattle.wv_code.proofs.OneBody.{one_value, plain_is, push_is, load_is, local_is, inc_is, branch_is, table_is, lookup_is, reference_is, interface_is, site_is, class_is, array_is, multi_is}
-use Rattle.wv_code.proofs.Operands.{field_constant, method_constant, takes_field, takes_method}
+use Rattle.wv_code.proofs.Operands.{method_constant}
 use Rattle.wv_code.proofs.Switches.{high_is}
 
 -- ---- what is either so or not is so where it isn't not so

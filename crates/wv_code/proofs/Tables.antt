@@ -1,7 +1,7 @@
 -- The StackMapTable among the attributes, of which there is one at most.
-use Rattle.std.proofs.Common.{◌≡◌, ℕ, zero, suc, ◌+◌, ◌<◌, ◌^◌, List, [], ◌∷◌, ◌++◌, length, get_or, take, Some, refl, sym, ap, subst, ◌∙◌, ◌⊎◌, inl, inr, arith}
+use Rattle.std.proofs.Common.{◌≡◌, ℕ, zero, suc, ◌+◌, ◌<◌, List, [], ◌∷◌, ◌++◌, take, Some, refl, sym, ap, subst, ◌∙◌, ◌⊎◌, inl, inr, arith}
 use Rattle.std.specs.Prelude.{slice_get}
-use Rattle.std.specs.List.{flat_map, AllByRecursion}
+use Rattle.std.specs.List.{AllByRecursion}
 use Rattle.std.proofs.lemmas.List.{append-nil}
 use Rattle.wv_base.specs.declared.class_file.PoolEntry.{PoolEntry}
 use Rattle.wv_base.specs.declared.frame.Frame.{Frame}
@@ -12,7 +12,7 @@ use Rattle.wv_code.specs.declared.raw_body.RawAttribute.{RawAttribute}
 use Rattle.wv_code.specs.declared.raw_body.RawAttribute.TheVariants as attributes
 use Rattle.wv_code.specs.declared.raw_body.RawBody.{RawBody}
 use Rattle.wv_code.specs.declared.splitting.RawCode.{RawCode}
-use Rattle.wv_code.specs.Body.{table_in, frames_in}
+use Rattle.wv_code.specs.Body.{frames_in}
 use Rattle.wv_code.specs.Breaks.{FramesBreak, named, stands, made, IsSound, twice, frame, attribute_place}
 use Rattle.wv_code.specs.Content.{IsAttribute}
 

@@ -1,4 +1,3 @@
-use Rattle.std.proofs.Common.{◌≡◌, inl, inr}
 use Rattle.wv_code.specs.Breaks.{start, end, handler, catch}
 use Rattle.wv_code.proofs.range.range_of.Goals as goal
 
