@@ -23,7 +23,7 @@ use Rattle.wv_code.specs.Meaning.{NamesConstant, Leads, AllLead, AllCasesLead, I
 use Rattle.wv_code.specs.Writing.{load_opcode, IsMember, IsWritten}
 use Rattle.wv_code.proofs.Lists.{AllByRecursion-map}
 
-lead_push : (offsets : List ℕ) (at : ℕ) (distances : List ℤ) (targets : List ℕ) (d : ℤ) (t : ℕ) → AllLead offsets at distances targets → Leads offsets at d t → AllLead offsets at (distances ++ d ∷ []) (targets ++ t ∷ [])
+pub lead_push : (offsets : List ℕ) (at : ℕ) (distances : List ℤ) (targets : List ℕ) (d : ℤ) (t : ℕ) → AllLead offsets at distances targets → Leads offsets at d t → AllLead offsets at (distances ++ d ∷ []) (targets ++ t ∷ [])
 lead_push offsets at [] [] d t h l = (l, tt)
 lead_push offsets at [] (y ∷ targets) d t h l = absurd h
 lead_push offsets at (x ∷ distances) [] d t h l = absurd h
@@ -34,7 +34,7 @@ pub leads_on : (offsets : List ℕ) (at : ℕ) (distances : List ℤ) (targets :
 leads_on offsets at distances targets k d lt h l =
     subst (λ (front : List ℕ). AllLead offsets at (distances ++ d ∷ []) front) (sym (take_more targets k 0 lt)) (lead_push offsets at distances (take k targets) d (get_or targets k 0) h l)
 
-case_push : (offsets : List ℕ) (at : ℕ) (raws : List RawCase) (cases : List Case) (r : RawCase) (c : Case) → AllCasesLead offsets at raws cases → r.key ≡ c.key → Leads offsets at r.offset c.to
+pub case_push : (offsets : List ℕ) (at : ℕ) (raws : List RawCase) (cases : List Case) (r : RawCase) (c : Case) → AllCasesLead offsets at raws cases → r.key ≡ c.key → Leads offsets at r.offset c.to
     → AllCasesLead offsets at (raws ++ r ∷ []) (cases ++ c ∷ [])
 case_push offsets at [] [] r c h key l = (key, l, tt)
 case_push offsets at [] (y ∷ cases) r c h key l = absurd h

@@ -40,3 +40,15 @@ pub mod RangePlaces
 pub mod FramePlaces
 pub mod TablePlaces
 pub mod ContentPlaces
+pub mod Indices
+pub mod Operands
+pub mod Ranges
+pub mod Placing
+pub mod Landings
+pub mod Switches
+pub mod Meanings
+pub mod Framed
+pub mod Tables
+pub mod OneBody
+pub mod AllowedConstants
+pub mod Shaped

@@ -21,3 +21,4 @@ pub mod WritingBody
 pub mod Least
 pub mod Operands
 pub mod Checking
+pub mod Placed
