@@ -8,3 +8,4 @@ pub mod Parameters
 pub mod TypeTables
 pub mod Shapes
 pub mod Meanings
+pub mod Uniqueness

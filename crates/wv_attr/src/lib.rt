@@ -2,6 +2,7 @@
 #![tactic(auto)]
 
 mod group;
+mod laws;
 mod layout;
 mod mark;
 mod naming;
@@ -11,9 +12,10 @@ mod step;
 mod types;
 
 pub use group::Group;
+pub use laws::{one_list, one_parameter_list};
 pub use layout::{read_layout, read_parameter_layout};
 pub use mark::Mark;
-pub use notes::{notes_of, read_notes};
+pub use notes::{notes_of, parameter_notes_of, read_notes, read_parameter_notes};
 pub use reference::first_break;
 pub use types::Types;
 
