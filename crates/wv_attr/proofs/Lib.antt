@@ -9,3 +9,8 @@ pub mod TypeTables
 pub mod Shapes
 pub mod Meanings
 pub mod Uniqueness
+pub mod Flattened
+pub mod PoolGrowth
+pub mod Numbered
+pub mod Ordered
+pub mod Written

@@ -1,11 +1,7 @@
-use Rattle.std.proofs.Common.{Result, Ok, Err, IfOk}
 use Rattle.wv_attr.specs.declared.mark.Mark.TheVariants as marks
 use Rattle.wv_attr.proofs.Meanings.{opened, behind_one, lists_step}
+use Rattle.wv_attr.proofs.PoolGrowth.{found_map}
 use Rattle.wv_attr.proofs.notes.list.Goals as goal
-
-found_map : {X E : Type 0} {P Q : X → Type 0} (r : Result X E) → ((x : X) → P x → Q x) → IfOk r P → IfOk r Q
-found_map (Ok x) f h = f x h
-found_map (Err e) f h = tt
 
 pub returns-clause-rest : goal.returns-clause-rest
 returns-clause-rest c =
