@@ -98,5 +98,5 @@ one_list_more place count out new start notes run after lt splits here behind e 
     let first : of_place place notes ≡ run = run_is place count run after notes splits here behind in
     let others : by_place (place + 1) k notes ≡ by_place (place + 1) k after = by_place_behind place k run after notes splits here in
     let all : list_pieces run ++ last ≡ lists_pieces (by_place place (count - place) notes) =
-        ap (λ (ns : List Note). list_pieces ns ++ last) (sym first) ∙ ap (λ (ls : List (List Note)). lists_pieces (of_place place notes ∷ ls)) (sym others) ∙ ap (λ (j : ℕ). lists_pieces (by_place place j notes)) left in
+    ap (λ (ns : List Note). list_pieces ns ++ last) (sym first) ∙ ap (λ (ls : List (List Note)). lists_pieces (of_place place notes ∷ ls)) (sym others) ∙ ap (λ (j : ℕ). lists_pieces (by_place place j notes)) left in
     ap (λ (t : List Piece). t ++ last) e ∙ append_assoc out (list_pieces run) last ∙ ap (λ (t : List Piece). out ++ t) all ∙ h

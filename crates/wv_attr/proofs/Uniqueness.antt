@@ -59,6 +59,7 @@ sound_unbroken pool parts at all b = go b.breaks
   where
     here : IsSound pool b.part
     here = all_at (IsSound pool) b.before b.part b.after (subst (AllByRecursion (IsSound pool)) b.splits all)
+
     go : BreaksAt pool b.part b.field → ⊥
     go (inl first) = first.1 here.0
     go (inr second) = second.2 here.1

@@ -70,6 +70,13 @@ as_members visible notes = map (λ (n : Note). record { visible = visible; param
 abbrev pub as_parameters : Bool → List Note → List Note
 as_parameters visible notes = map (λ (n : Note). record { visible = visible; parameter = n.parameter; annotation = n.annotation }) notes
 
+-- annotations that all are of such a table
+abbrev pub AreMembers : Bool → List Note → Type 0
+AreMembers visible notes = AllByRecursion (λ (n : Note). (n.visible ≡ visible) × (n.parameter ≡ None)) notes
+
+abbrev pub AreParameters : Bool → List Note → Type 0
+AreParameters visible notes = AllByRecursion (λ (n : Note). n.visible ≡ visible) notes
+
 -- annotations of parameters from this one up to a number of them, in the parameters' order
 abbrev pub AreOrdered : ℕ → ℕ → List Note → Type 0
 AreOrdered least count [] = Unit {0}

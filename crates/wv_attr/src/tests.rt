@@ -184,6 +184,26 @@ fn values_nest_255_deep(rt: HostRuntime) -> Result<(), Fail> {
     Ok(())
 }
 
+/// A table with annotations so many deep as values, the innermost of them without elements.
+fn nested(alloc: Global, depth: usize) -> Result<Vec<u8>, Fail> {
+    let mut bytes = Vec::new(alloc);
+    bytes.extend_from_slice(&[0, 1, 0, 1, 0, 1, 0, 2])?;
+    for _ in 1..depth {
+        bytes.extend_from_slice(&[b'@', 0, 1, 0, 1, 0, 2])?;
+    }
+    bytes.extend_from_slice(&[b'@', 0, 1, 0, 0])?;
+    Ok(bytes)
+}
+
+#[test]
+fn annotations_nest_255_deep(rt: HostRuntime) -> Result<(), Fail> {
+    for (depth, want) in [(1, None), (255, None), (256, Some(1793)), (257, Some(1793))] {
+        let bytes = nested(rt.alloc(), depth)?;
+        assert_eq!(rt; fault(rt.alloc(), &bytes), want, "{depth} deep");
+    }
+    Ok(())
+}
+
 #[test]
 fn tables_of_parameters(rt: HostRuntime) -> Result<(), Fail> {
     let cases: [(&[u8], Option<usize>); 7] = [

@@ -39,17 +39,17 @@ pub put_annotation-returns : goal.put_annotation-returns
 put_annotation-returns t c =
     let a = out-Annotation c.args.annotation.now in
     on_ok c.put_pairs.result (λ last.
-        let rest = last ∙ ap (λ xs. c.push.new.self.items ++ flat_map pair_pieces xs) c.as_slice.ensures in
-        let first = c.in_ok-push.ensures.items ∙ ap (λ k. c.args.out.now.items ++ pieces.Annotation c.in_ok-class.class k ∷ []) c.len-count.ensures ∙ ap (λ x. c.args.out.now.items ++ pieces.Annotation x (length a.elements) ∷ []) c.in_ok-class.ensures in
-        put_behind c.put_pairs.new.out.items c.push.new.self.items c.args.out.now.items (flat_map pair_pieces a.elements) (pieces.Annotation a.class (length a.elements)) rest first
-        ∙ ap (λ ps. c.args.out.now.items ++ ps) (sym (annotation_out c.args.annotation.now)))
+    let rest = last ∙ ap (λ xs. c.push.new.self.items ++ flat_map pair_pieces xs) c.as_slice.ensures in
+    let first = c.in_ok-push.ensures.items ∙ ap (λ k. c.args.out.now.items ++ pieces.Annotation c.in_ok-class.class k ∷ []) c.len-count.ensures ∙ ap (λ x. c.args.out.now.items ++ pieces.Annotation x (length a.elements) ∷ []) c.in_ok-class.ensures in
+    put_behind c.put_pairs.new.out.items c.push.new.self.items c.args.out.now.items (flat_map pair_pieces a.elements) (pieces.Annotation a.class (length a.elements)) rest first
+    ∙ ap (λ ps. c.args.out.now.items ++ ps) (sym (annotation_out c.args.annotation.now)))
     c.put_pairs.ensures
 
 pub put_pair-returns : goal.put_pair-returns
 put_pair-returns t c =
     let p = out-NamedElement c.args.pair.now in
     on_ok c.put_value.result (λ last.
-        let first = c.in_ok-push.ensures.items ∙ ap (λ x. c.args.out.now.items ++ pieces.Name x ∷ []) c.in_ok-copy.ensures in
-        put_behind c.put_value.new.out.items c.push.new.self.items c.args.out.now.items (value_pieces p.value) (pieces.Name p.name) last first
-        ∙ ap (λ ps. c.args.out.now.items ++ ps) (sym (pair_out c.args.pair.now)))
+    let first = c.in_ok-push.ensures.items ∙ ap (λ x. c.args.out.now.items ++ pieces.Name x ∷ []) c.in_ok-copy.ensures in
+    put_behind c.put_value.new.out.items c.push.new.self.items c.args.out.now.items (value_pieces p.value) (pieces.Name p.name) last first
+    ∙ ap (λ ps. c.args.out.now.items ++ ps) (sym (pair_out c.args.pair.now)))
     c.put_value.ensures

@@ -19,7 +19,7 @@ pub returns-clause-read_again : goal.returns-clause-read_again
 returns-clause-read_again c = λ visible.
     let parts = c.in_ok-marks.marks.items in
     let pieces : c.deref.result.now ≡ list_pieces c.args.notes.now =
-        c.deref.ensures.value ∙ c.in_ok-put_list.ensures ∙ ap (λ (ps : List Piece). ps ++ list_pieces c.args.notes.now) c.new-pieces.ensures.items in
+    c.deref.ensures.value ∙ c.in_ok-put_list.ensures ∙ ap (λ (ps : List Piece). ps ++ list_pieces c.args.notes.now) c.new-pieces.ensures.items in
     let names = subst (λ (ps : List Piece). AllName c.marks_of.new.pool ps parts) pieces c.in_ok-marks.ensures.names in
     let bytes = c.from_vec.ensures ∙ c.in_ok-put_marks.ensures ∙ ap (λ bs. bs ++ table_bytes c.deref-2.result.now) c.new-out.ensures.items ∙ ap table_bytes c.deref-2.ensures.value in
     members_read c.marks_of.new.pool visible c.args.notes.now parts c.from_vec.result c.requires names c.in_ok-marks.ensures.marks bytes
