@@ -1,8 +1,11 @@
 pub mod Fills
 pub mod Filling
 pub mod Leading
+pub mod Padding
 pub mod Places
+pub mod Missing
 pub mod StepFaults
+pub mod ValueSteps
 pub mod Stack
 pub mod Parameters
 pub mod TypeTables

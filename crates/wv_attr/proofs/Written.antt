@@ -432,6 +432,7 @@ parameters_read pool visible count notes parts bytes rest able names valid start
       table = record {
         count = count;
         rest = rest;
+        small = omega (arith, size, long, able.3, ap length starts);
         starts = starts;
         table = record { small = omega (arith, size, long, able.3); follows = l.goes (length rest); spelled = e };
       };

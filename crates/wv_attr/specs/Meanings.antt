@@ -81,7 +81,7 @@ pub record IsReferenceFault (pool : List PoolEntry) (bytes : List ℕ) (at : ℕ
 -- the cause of a fault; one of the layout comes before every other
 abbrev pub NotesBreak : List PoolEntry → List ℕ → ClassFault → Type 0
 NotesBreak pool bytes faults.Memory = Unit {0}
-NotesBreak pool bytes (faults.Layout at) = IsLayoutFault (lists 1) bytes at
+NotesBreak pool bytes (faults.Layout at) = IsLayoutFault (lists 1) bytes 0 at
 NotesBreak pool bytes (faults.Reference at) = IsReferenceFault pool bytes at
 
 -- these annotations, unless memory ran out
@@ -110,5 +110,5 @@ pub record IsParameterReferenceFault (pool : List PoolEntry) (bytes : List ℕ) 
 -- the cause of a fault in a table of parameters; one of the layout comes before every other
 abbrev pub ParameterNotesBreak : List PoolEntry → List ℕ → ClassFault → Type 0
 ParameterNotesBreak pool bytes faults.Memory = Unit {0}
-ParameterNotesBreak pool bytes (faults.Layout at) = ParametersBreak bytes (faults.Layout at)
+ParameterNotesBreak pool bytes (faults.Layout at) = ParametersBreak bytes 0 (faults.Layout at)
 ParameterNotesBreak pool bytes (faults.Reference at) = IsParameterReferenceFault pool bytes at

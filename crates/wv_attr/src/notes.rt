@@ -1,5 +1,5 @@
 //! Annotations of classes and members.
-ghost use Rattle.std.specs.Prelude.{◌≡◌, ◌∷◌, ◌≤◌, ◌<◌, ℕ, suc, List, length, IfOk, IfErr};
+ghost use Rattle.std.specs.Prelude.{◌≡◌, ◌↔◌, ◌^◌, IsTrue, ◌∷◌, ◌≤◌, ◌<◌, ℕ, suc, List, length, IfOk, IfErr};
 ghost use Rattle.std.specs.List.{AllByRecursion};
 ghost use Rattle.wv_base.specs.declared.note.Note.{Note};
 ghost use Rattle.wv_attr.specs.declared.mark.Mark.{Mark};
@@ -125,6 +125,13 @@ pub fn parameter_notes_of(
     Ok(Items::from_vec(found))
 }
 
+/// Whether an attribute can have so many bytes: its length has four (JVM Specification 4.7).
+fn is_short(bytes: &[u8]) -> bool
+    ensures { IsTrue result ↔ (length bytes.now < 2 ^ 32) }
+{
+    u32::try_from(bytes.len()).is_ok()
+}
+
 /// The annotations of a class or of a member, in a visible table or not: `bytes` is the content of one
 /// RuntimeVisibleAnnotations or RuntimeInvisibleAnnotations attribute (JVM Specification 4.7.16 and
 /// 4.7.17). A fault of the layout comes before every other. The place of a fault counts from the start
@@ -140,7 +147,10 @@ pub fn read_notes(
     ensures only { (notes : List Note) → AreRead pool.now visible bytes.now notes → GivesNotes result notes }
     ensures fault { IfErr result (NotesBreak pool.now bytes.now) }
 {
-    let parts = read_layout(alloc, bytes)?;
+    if !is_short(bytes) {
+        return Err(ClassFault::Layout { at: 0 });
+    }
+    let parts = read_layout(alloc, bytes, 0)?;
     let types = Types::of(alloc, pool)?;
     if let Some(at) = first_break(pool, &types, &parts) {
         return Err(ClassFault::Reference { at });
@@ -165,7 +175,10 @@ pub fn read_parameter_notes(
     ensures only { (notes : List Note) → AreParametersRead pool.now visible bytes.now notes → GivesNotes result notes }
     ensures fault { IfErr result (ParameterNotesBreak pool.now bytes.now) }
 {
-    let parts = read_parameter_layout(alloc, bytes)?;
+    if !is_short(bytes) {
+        return Err(ClassFault::Layout { at: 0 });
+    }
+    let parts = read_parameter_layout(alloc, bytes, 0)?;
     let types = Types::of(alloc, pool)?;
     if let Some(place) = first_break(pool, &types, &parts) {
         return Err(ClassFault::Reference { at: place + 1 });

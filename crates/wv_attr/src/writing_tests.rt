@@ -146,7 +146,7 @@ fn cut_tables(rt: HostRuntime) -> Result<(), Fail> {
     let bytes = [0, 1, 0, 1, 0, 1, 0, 2, b's', 0, 2];
     let places = [0, 0, 1, 0, 0, 0, 5, 0, 0, 0, 1];
     for (end, place) in places.iter().enumerate() {
-        let at = match read_layout(rt.alloc(), &bytes[..end]) {
+        let at = match read_layout(rt.alloc(), &bytes[..end], 0) {
             Err(ClassFault::Layout { at }) => Some(at),
             _ => None,
         };
