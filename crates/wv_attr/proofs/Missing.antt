@@ -1,12 +1,12 @@
 -- Bytes behind which others are missing, read as if zeros stood there.
-use Rattle.std.proofs.Common.{◌≡◌, ℕ, zero, suc, ◌+◌, ◌-◌, ◌^◌, ◌<◌, ◌≤◌, List, [], ◌∷◌, ◌++◌, length, take, drop, refl, sym, subst, ap, ◌∙◌, ◌⊎◌, inl, inr, append_assoc, arith}
-use Rattle.std.proofs.lemmas.List.{length-append, length-drop, take-append-le, take-take, append-nil}
+use Rattle.std.proofs.Common.{◌≡◌, ℕ, zero, suc, ◌+◌, ◌-◌, ◌^◌, ◌<◌, ◌≤◌, List, [], ◌∷◌, length, take, drop, sym, subst, ap, ◌∙◌, ◌⊎◌, inl, inr, arith}
+use Rattle.std.proofs.lemmas.List.{length-drop, take-append-le, take-take}
 use Rattle.wv_room.specs.declared.elements.Elements.{Elements}
 use Rattle.wv_room.specs.Counts.{ElementsFillRoom}
 use Rattle.wv_attr.specs.declared.mark.Mark.{Mark}
 use Rattle.wv_attr.specs.declared.group.Group.{Group}
-use Rattle.wv_attr.specs.Marks.{mark_bytes, table_bytes}
-use Rattle.wv_attr.specs.Groups.{less, Follows, pending}
+use Rattle.wv_attr.specs.Marks.{table_bytes}
+use Rattle.wv_attr.specs.Groups.{less, pending}
 use Rattle.wv_attr.specs.Layout.{IsTable, Begins, IsLayoutFault}
 use Rattle.wv_attr.specs.Steps.{zeros, padded, StepStop}
 use Rattle.wv_attr.proofs.Filling.{follows_fill, nothing_left}

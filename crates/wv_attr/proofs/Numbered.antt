@@ -1,9 +1,8 @@
 -- Parts with numbers of a pool in place of their constants.
-use Rattle.std.proofs.Common.{◌≡◌, ℕ, zero, suc, ◌+◌, ◌<◌, ◌≤◌, Bool, true, false, List, [], ◌∷◌, ◌++◌, length, get_or, take, drop, Option, Some, None, refl, sym, ap, subst, ◌∙◌, append_assoc, inl, inr, arith, IsTrue, add-one}
+use Rattle.std.proofs.Common.{◌≡◌, ℕ, zero, suc, ◌+◌, ◌<◌, ◌≤◌, true, false, List, [], ◌∷◌, ◌++◌, length, get_or, take, Option, Some, refl, sym, ap, subst, ◌∙◌, append_assoc, arith, IsTrue}
 use Rattle.std.specs.Option.{IsSomeAnd, option_map}
 use Rattle.std.specs.List.{AllByRecursion}
-use Rattle.std.proofs.lemmas.List.{append-nil, length-append, take_more}
-use Rattle.std.proofs.lemmas.List.Concat.{flat_map-cons}
+use Rattle.std.proofs.lemmas.List.{append-nil, take_more}
 use Rattle.wv_base.specs.declared.class_file.PoolEntry.{PoolEntry}
 use Rattle.wv_base.specs.declared.class_file.PoolEntry.TheVariants as entries
 use Rattle.wv_base.specs.declared.constant.Const.{Const}
@@ -18,7 +17,7 @@ use Rattle.wv_attr.specs.declared.mark.Mark.{Mark}
 use Rattle.wv_attr.specs.declared.mark.Mark.TheVariants as marks
 use Rattle.wv_attr.specs.declared.piece.Piece.{Piece}
 use Rattle.wv_attr.specs.declared.piece.Piece.TheVariants as pieces
-use Rattle.wv_attr.specs.Marks.{is_constant_tag, mark_bytes, table_bytes, IsMark}
+use Rattle.wv_attr.specs.Marks.{is_constant_tag, mark_bytes, table_bytes}
 use Rattle.wv_attr.specs.References.{IsClassDescriptor, has_tag, IsSound}
 use Rattle.wv_attr.specs.Meanings.{class_descriptor}
 use Rattle.wv_attr.specs.Pieces.{piece_size, pieces_size, Names, AllName}

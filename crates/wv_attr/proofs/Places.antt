@@ -11,7 +11,7 @@ use Rattle.wv_attr.specs.Groups.{behind, less, IsShallow, Follows, end, part, pe
 use Rattle.wv_attr.specs.Layout.{IsTable}
 use Rattle.wv_attr.specs.Steps.{IsNext}
 use Rattle.wv_attr.proofs.Filling.{table-cons, follows_fill, filled, nothing_left}
-use Rattle.wv_attr.proofs.Leading.{Leads, stay, past, on, table-append, table-one, leads_follow, leads_only, same_front, first_of, nearer_only}
+use Rattle.wv_attr.proofs.Leading.{Leads, stay, past, on, table-append, table-one, leads_follow, leads_only, same_front, first_of}
 
 -- so many of the bytes begin a table of their size
 pub record Starts (gs : List Group) (bytes : List ℕ) (front : ℕ) : Type 0 where

@@ -1,10 +1,9 @@
 -- What a pool becomes by several additions, one after the other.
-use Rattle.std.proofs.Common.{◌≡◌, ℕ, ◌+◌, List, [], ◌∷◌, ◌++◌, length, Option, Some, sym, ap, subst, ◌∙◌, ◌⊎◌, inl, inr, arith, append_assoc, Result, Ok, Err, IfOk}
+use Rattle.std.proofs.Common.{◌≡◌, ℕ, ◌+◌, List, [], ◌∷◌, ◌++◌, length, Some, sym, ap, subst, ◌∙◌, ◌⊎◌, inl, inr, arith, append_assoc, Result, Ok, Err, IfOk}
 use Rattle.std.specs.List.{AllByRecursion}
 use Rattle.std.proofs.lemmas.List.{append-nil, length-append}
 use Rattle.wv_base.specs.declared.class_file.PoolEntry.{PoolEntry}
 use Rattle.wv_base.specs.declared.constant.Const.{Const}
-use Rattle.wv_base.specs.declared.constant.Const.TheVariants as constants
 use Rattle.wv_pool.specs.References.{text_of}
 use Rattle.wv_pool.specs.Constants.{constant_of}
 use Rattle.wv_pool.specs.Numbers.{Named}

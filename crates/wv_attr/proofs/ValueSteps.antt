@@ -5,7 +5,6 @@ use Rattle.wv_room.specs.declared.element_count.ElementKind.{ElementKind}
 use Rattle.wv_room.specs.declared.element_count.ElementKind.TheVariants as kinds
 use Rattle.wv_room.specs.declared.elements.Elements.{Elements}
 use Rattle.wv_room.specs.Counts.{elements_with, ElementsFillRoom}
-use Rattle.wv_attr.specs.declared.mark.Mark.{Mark}
 use Rattle.wv_attr.specs.declared.mark.Mark.TheVariants as marks
 use Rattle.wv_attr.specs.Marks.{two_bytes, is_constant_tag, mark_bytes}
 use Rattle.wv_attr.specs.Steps.{padded, Steps, StepFault, StepStop, Counts}

@@ -1,5 +1,5 @@
 -- Parts whose numbers name what annotations have are a table of these.
-use Rattle.std.proofs.Common.{◌≡◌, ℕ, zero, suc, ◌+◌, ◌-◌, ◌^◌, ◌<◌, ◌≤◌, Bool, true, false, cond, List, [], ◌∷◌, ◌++◌, length, map, Option, Some, None, refl, sym, ap, subst, ◌∙◌, append_assoc, arith}
+use Rattle.std.proofs.Common.{◌≡◌, ℕ, zero, suc, ◌+◌, ◌-◌, ◌<◌, ◌≤◌, Bool, true, false, cond, List, [], ◌∷◌, ◌++◌, length, map, Option, Some, None, refl, sym, ap, subst, ◌∙◌, append_assoc, arith}
 use Rattle.std.specs.List.{flat_map, filter, AllByRecursion}
 use Rattle.std.proofs.lemmas.List.{append-nil, map-append}
 use Rattle.wv_room.specs.declared.element_count.ElementKind.{ElementKind}
@@ -12,7 +12,7 @@ use Rattle.wv_base.specs.declared.note.Element.{Element, roll-Element}
 use Rattle.wv_base.specs.declared.note.Element.TheVariants as elements
 use Rattle.wv_base.specs.declared.note.Element.TheOpen.{Element-F, Annotation-F, NamedElement-F}
 use Rattle.wv_base.specs.declared.note.Element.TheOpen as layer
-use Rattle.wv_base.specs.declared.note.Element.TheFolds.{ind-Element, ind-Annotation, map-Element, map-Annotation, map-NamedElement}
+use Rattle.wv_base.specs.declared.note.Element.TheFolds.{ind-Annotation, map-Element, map-Annotation, map-NamedElement}
 use Rattle.wv_base.specs.declared.note.Note.{Note}
 use Rattle.wv_attr.specs.declared.mark.Mark.{Mark}
 use Rattle.wv_attr.specs.declared.mark.Mark.TheVariants as marks
@@ -20,15 +20,15 @@ use Rattle.wv_attr.specs.declared.group.Group.{Group}
 use Rattle.wv_attr.specs.declared.piece.Piece.{Piece}
 use Rattle.wv_attr.specs.declared.piece.Piece.TheVariants as pieces
 use Rattle.wv_attr.specs.Marks.{mark_bytes, table_bytes, IsMark}
-use Rattle.wv_attr.specs.Groups.{kind_of, group, behind, less, IsShallow, Follows, end, over, part}
+use Rattle.wv_attr.specs.Groups.{kind_of, group, behind, IsShallow, Follows, end, over, part}
 use Rattle.wv_attr.specs.Meanings.{class_descriptor, IsValue, AreValues, IsAnnotation, IsPair, ArePairs, AreNotes, AreListed, AreRead, AreParametersRead}
 use Rattle.wv_attr.specs.Meanings as meanings
 use Rattle.wv_attr.specs.Layout.{lists}
 use Rattle.wv_attr.specs.Writing.{AreShallow, AreWritable, as_members, as_parameters, AreOrdered, is_place, by_place, lists_pieces, AreWritableOf}
 use Rattle.wv_attr.proofs.Numbered.{all_sound, all_size}
 use Rattle.wv_attr.proofs.Ordered.{AreOf, of_place, split_run, run_is, filter_skip}
-use Rattle.wv_attr.specs.Pieces.{value_pieces, annotation_pieces, pair_pieces, list_pieces, most, value_depth, annotation_depth, pair_depth, Names, AllName}
-use Rattle.wv_attr.proofs.Flattened.{constant_pieces, enum_pieces, class_pieces, nested_pieces, array_pieces, annotation_rolled, pair_rolled, most_all, constant_depth, enum_depth, class_depth, nested_depth, array_depth, annotation_depth_rolled, pair_depth_rolled, value_deep}
+use Rattle.wv_attr.specs.Pieces.{value_pieces, annotation_pieces, pair_pieces, list_pieces, value_depth, annotation_depth, pair_depth, Names, AllName}
+use Rattle.wv_attr.proofs.Flattened.{constant_pieces, enum_pieces, class_pieces, nested_pieces, array_pieces, annotation_rolled, pair_rolled, most_all, nested_depth, array_depth, annotation_depth_rolled, pair_depth_rolled, value_deep}
 
 -- ---- a part of a group
 

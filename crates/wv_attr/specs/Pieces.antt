@@ -1,6 +1,6 @@
 -- The parts of annotations with constants in place of their numbers (JVM Specification 4.7.16 and 4.7.16.1).
-use Rattle.std.specs.Prelude.{◌≡◌, ℕ, zero, suc, ◌+◌, ◌==◌, ◌||◌, max, List, [], ◌∷◌, length, map, Option, Some, None, Bool, false}
-use Rattle.std.specs.List.{flat_map, filter}
+use Rattle.std.specs.Prelude.{◌≡◌, ℕ, ◌+◌, max, List, [], ◌∷◌, length, Some}
+use Rattle.std.specs.List.{flat_map}
 use Rattle.wv_base.specs.declared.class_file.PoolEntry.{PoolEntry}
 use Rattle.wv_base.specs.declared.note.Annotation.{Annotation}
 use Rattle.wv_base.specs.declared.note.NamedElement.{NamedElement}

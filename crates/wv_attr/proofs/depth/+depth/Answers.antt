@@ -1,11 +1,4 @@
-use Rattle.std.proofs.Common.{ap, ◌∙◌, arith}
-use Rattle.std.proofs.Common.{List}
-use Rattle.std.specs.List.{AllByRecursion}
-use Rattle.std.specs.Prelude.{◌↔◌, IsTrue, ◌≤◌}
-use Rattle.wv_base.specs.declared.note.Annotation.{out-Annotation}
-use Rattle.wv_base.specs.declared.note.Element.{Element}
-use Rattle.wv_base.specs.declared.note.NamedElement.{NamedElement}
-use Rattle.wv_attr.specs.Pieces.{value_depth, pair_depth}
+use Rattle.std.proofs.Common.{arith}
 use Rattle.wv_attr.proofs.Flattened.{leaf_within, leaf_depth, array_within, nested_within, none_within, pair_within}
 use Rattle.wv_attr.proofs.depth.+depth.Goals as goal
 

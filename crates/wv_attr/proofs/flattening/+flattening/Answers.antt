@@ -1,4 +1,4 @@
-use Rattle.std.proofs.Common.{◌≡◌, ◌++◌, ◌∷◌, [], length, ap, sym, ◌∙◌}
+use Rattle.std.proofs.Common.{◌++◌, ◌∷◌, [], length, ap, sym, ◌∙◌}
 use Rattle.std.specs.List.{flat_map}
 use Rattle.wv_base.specs.declared.note.Annotation.{out-Annotation}
 use Rattle.wv_base.specs.declared.note.NamedElement.{out-NamedElement}

@@ -1,4 +1,4 @@
-use Rattle.std.proofs.Common.{◌≡◌, ◌+◌, true, false, length, ap, subst, arith}
+use Rattle.std.proofs.Common.{◌≡◌, true, false}
 use Rattle.wv_attr.specs.Layout.{lists}
 use Rattle.wv_attr.proofs.Missing.{no_room}
 use Rattle.wv_attr.proofs.layout.read_layout.Goals as goal

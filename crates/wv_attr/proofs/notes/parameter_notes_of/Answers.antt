@@ -1,9 +1,8 @@
-use Rattle.std.proofs.Common.{◌≡◌, ℕ, suc, ◌+◌, List, [], ◌∷◌, ◌++◌, length, refl, sym, subst, ap, ◌∙◌, append_assoc, arith}
+use Rattle.std.proofs.Common.{◌≡◌, List, [], ◌∷◌, ◌++◌, length, refl, sym, subst, ap, ◌∙◌, append_assoc, arith}
 use Rattle.std.proofs.lemmas.Bool.{eqb-true}
 use Rattle.std.proofs.lemmas.List.{append-nil}
 use Rattle.wv_base.specs.declared.note.Note.{Note}
 use Rattle.wv_attr.specs.declared.mark.Mark.{Mark}
-use Rattle.wv_attr.specs.declared.mark.Mark.TheVariants as marks
 use Rattle.wv_attr.specs.Meanings.{AreListed, no_lists, one_list}
 use Rattle.wv_attr.proofs.Shapes.{lists_front, lists_left}
 use Rattle.wv_attr.proofs.notes.parameter_notes_of.Goals as goal

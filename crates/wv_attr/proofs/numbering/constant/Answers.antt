@@ -1,4 +1,3 @@
-use Rattle.wv_pool.specs.Adding.{needs}
 use Rattle.wv_attr.proofs.PoolGrowth.{constant_added, found_map}
 use Rattle.wv_attr.proofs.numbering.constant.Goals as goal
 

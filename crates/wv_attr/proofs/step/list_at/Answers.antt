@@ -1,8 +1,6 @@
-use Rattle.std.proofs.Common.{◌≡◌, ℕ, ◌+◌, ◌-◌, List, length, take, drop, refl, true, false, sym, subst, ap, ◌∙◌, ◌⊎◌, inl, inr, arith}
-use Rattle.wv_room.specs.declared.element_count.ElementKind.TheVariants as kinds
-use Rattle.wv_room.specs.Counts.{elements_with, ElementsFillRoom}
+use Rattle.std.proofs.Common.{length, arith}
 use Rattle.wv_attr.specs.Steps.{padded}
-use Rattle.wv_attr.proofs.Padding.{length-padded, room_after, none_more, least_there}
+use Rattle.wv_attr.proofs.Padding.{length-padded, least_there}
 use Rattle.wv_attr.proofs.Fills.{least_room}
 use Rattle.wv_attr.proofs.StepFaults.{list_fault}
 use Rattle.wv_attr.proofs.ValueSteps.{list_ok}

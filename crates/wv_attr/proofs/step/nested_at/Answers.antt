@@ -1,8 +1,8 @@
-use Rattle.std.proofs.Common.{◌≡◌, ℕ, ◌+◌, ◌-◌, List, length, take, drop, refl, true, false, sym, subst, ap, ◌∙◌, ◌⊎◌, inl, inr, arith}
+use Rattle.std.proofs.Common.{◌≡◌, ℕ, refl, true, false, subst}
 use Rattle.wv_room.specs.declared.element_count.ElementKind.TheVariants as kinds
 use Rattle.wv_room.specs.Counts.{elements_with, ElementsFillRoom}
 use Rattle.wv_attr.specs.Steps.{padded}
-use Rattle.wv_attr.proofs.Padding.{length-padded, room_after, none_more, least_there}
+use Rattle.wv_attr.proofs.Padding.{length-padded}
 use Rattle.wv_attr.proofs.StepFaults.{nested_fault}
 use Rattle.wv_attr.proofs.ValueSteps.{nested_ok}
 use Rattle.wv_attr.proofs.step.nested_at.Goals as goal

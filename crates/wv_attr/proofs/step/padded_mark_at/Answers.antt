@@ -1,5 +1,5 @@
-use Rattle.std.proofs.Common.{◌≡◌, ℕ, ◌+◌, ◌-◌, List, [], ◌∷◌, ◌++◌, length, take, drop, subst, ap, ◌∙◌, arith}
-use Rattle.wv_attr.specs.Steps.{zeros, padded, Steps}
+use Rattle.std.proofs.Common.{ℕ, ◌+◌, ◌-◌, List, [], ◌∷◌, ◌++◌, length, take, drop, subst, ap, ◌∙◌, arith}
+use Rattle.wv_attr.specs.Steps.{padded, Steps}
 use Rattle.wv_attr.proofs.Padding.{padded-more, window_is}
 use Rattle.wv_attr.proofs.step.padded_mark_at.Goals as goal
 

@@ -1,4 +1,4 @@
-use Rattle.std.proofs.Common.{◌≡◌, ◌+◌, take, refl, arith, sym, ap, ◌∙◌}
+use Rattle.std.proofs.Common.{◌≡◌, ◌+◌, refl, arith, ap}
 use Rattle.std.proofs.lemmas.List.{take_all}
 use Rattle.wv_attr.specs.Pieces.{piece_size, pieces_size}
 use Rattle.wv_attr.proofs.Numbered.{size_more, size_front}

@@ -1,7 +1,6 @@
-use Rattle.std.proofs.Common.{◌+◌, ◌≡◌, ◌++◌, List, take, drop, sym, subst, ap, ◌∙◌}
+use Rattle.std.proofs.Common.{◌+◌, ◌≡◌, ◌++◌, List, take, sym, subst, ap, ◌∙◌}
 use Rattle.std.proofs.lemmas.List.{take-append-drop}
 use Rattle.wv_base.specs.declared.note.Note.{Note}
-use Rattle.wv_attr.specs.Pieces.{list_pieces}
 use Rattle.wv_attr.specs.Writing.{AreOrdered, by_place, lists_pieces}
 use Rattle.wv_attr.proofs.Ordered.{AreOf, one_list_more}
 use Rattle.wv_attr.proofs.writing.put_lists.Goals as goal

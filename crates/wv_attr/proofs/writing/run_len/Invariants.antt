@@ -1,4 +1,4 @@
-use Rattle.std.proofs.Common.{ℕ, List, take, drop}
+use Rattle.std.proofs.Common.{ℕ, take, drop}
 use Rattle.wv_attr.specs.Writing.{AreOrdered}
 use Rattle.wv_attr.proofs.Ordered.{AreOf}
 use Rattle.wv_attr.proofs.writing.run_len.Given as goal
