@@ -117,7 +117,7 @@ pub record Rest (near : ℕ) (gs : List Group) (front all : List Mark) : Type 0 
 pub same_front : (a v w : List ℕ) → a ++ v ≡ a ++ w → v ≡ w
 same_front a v w e = sym (drop-append_seam a v) ∙ ap (drop (length a)) e ∙ drop-append_seam a w
 
-past_over : {near : ℕ} {g : Group} {gs : List Group} {ms : List Mark} → g.count ≡ 0 → Follows near (g ∷ gs) ms → Follows near gs ms
+pub past_over : {near : ℕ} {g : Group} {gs : List Group} {ms : List Mark} → g.count ≡ 0 → Follows near (g ∷ gs) ms → Follows near gs ms
 past_over z (over same f) = f
 past_over z (part c valid kind shallow f) = absurd (omega arith)
 

@@ -143,3 +143,11 @@ annotations_over k ms end z (fronts.one_annotation count ms2 next rest v l) = ab
 pub annotations_first : (k : ℕ) (ms end : List Mark) → 0 < k → AnnotationsFront k ms end → (next : List Mark) × AnnotationFront ms next
 annotations_first k ms end pos (fronts.no_annotations rest) = absurd (omega arith)
 annotations_first k ms end pos (fronts.one_annotation count ms2 next rest v l) = (next, v)
+
+-- a list and those behind it
+pub lists_step : (size : ℕ) (parts ms after : List Mark) → parts ≡ marks.List size ∷ ms → ((r : List Mark) → AnnotationsFront size ms r → after ≡ r) → (count : ℕ) (end : List Mark) → ListsFront (suc count) parts end
+    → ListsFront count after end
+lists_step size parts ms after e same count end f = go (subst (λ (t : List Mark). ListsFront (suc count) t end) e f)
+  where
+    go : ListsFront (suc count) (marks.List size ∷ ms) end → ListsFront count after end
+    go (fronts.one_list k count ms2 next rest a l) = subst (λ (t : List Mark). ListsFront count t rest) (sym (same next a)) l

@@ -8,10 +8,18 @@ use Rattle.wv_attr.specs.declared.mark.Mark.{Mark}
 use Rattle.wv_attr.specs.declared.group.Group.{Group}
 use Rattle.wv_attr.specs.Marks.{mark_bytes, table_bytes}
 use Rattle.wv_attr.specs.Groups.{behind, less, IsShallow, Follows, end, part, pending}
-use Rattle.wv_attr.specs.Layout.{IsTable, Begins, IsLayoutFault}
-use Rattle.wv_attr.specs.Steps.{IsNext, StepFault}
+use Rattle.wv_attr.specs.Layout.{IsTable}
+use Rattle.wv_attr.specs.Steps.{IsNext}
 use Rattle.wv_attr.proofs.Filling.{table-cons, follows_fill, filled, nothing_left}
-use Rattle.wv_attr.proofs.Leading.{Leads, stay, past, on, table-append, table-one, leads_follow, leads_only, same_front, first_of, nearer_only}
+use Rattle.wv_attr.proofs.Leading.{Leads, stay, past, on, table-append, table-one, leads_follow, leads_only, same_front, first_of}
+
+-- so many of the bytes begin a table of their size
+pub record Starts (gs : List Group) (bytes : List ℕ) (front : ℕ) : Type 0 where
+  pub parts : List Mark
+  pub small : length bytes < 2 ^ 32
+  pub follows : Follows front gs parts
+  pub long : length (table_bytes parts) ≡ length bytes
+  pub agrees : take front (table_bytes parts) ≡ take front bytes
 
 -- what was read, and what is due
 pub record Reading (first : List Group) (bytes : List ℕ) (ms : List Mark) (at : ℕ) (gs : List Group) (due : Elements) : Type 0 where
@@ -83,7 +91,7 @@ module _ (first : List Group) (bytes : List ℕ) (ms : List Mark) (at : ℕ) whe
 
   -- parts that begin with those read and go on so far
   begun : (gs : List Group) (due : Elements) (place : ℕ) (parts : List Mark) → length bytes < 2 ^ 32 → Reading first bytes ms at gs due → Follows place gs parts
-      → length (table_bytes parts) ≡ length bytes - at → take place (table_bytes parts) ≡ take place (drop at bytes) → Begins first bytes (at + place)
+      → length (table_bytes parts) ≡ length bytes - at → take place (table_bytes parts) ≡ take place (drop at bytes) → Starts first bytes (at + place)
   begun gs due place parts small r f long same =
       let mine = long_read bytes ms at r.within r.read in
       let early = r.within in
@@ -100,25 +108,26 @@ module _ (first : List Group) (bytes : List ℕ) (ms : List Mark) (at : ℕ) whe
       }
 
   module _ (g : Group) (gs : List Group) (due besides : Elements) (place : ℕ) (small : length bytes < 2 ^ 32) (r : Reading first bytes ms at (g ∷ gs) due) (c : 0 < g.count)
-      (e : besides ≡ pending (less g ∷ gs)) (fault : StepFault g.kind g.depth besides (drop at bytes) place) where
+      (e : besides ≡ pending (less g ∷ gs)) where
     place_is : (k : ℕ) → (k ≡ 0) ⊎ (0 < k)
     place_is zero = inl refl
     place_is (suc k) = inr (omega arith)
 
-    so_far : Begins first bytes (at + place)
-    so_far = go (place_is place)
+    -- the front before the place begins one, where a part does
+    pub so_far : place ≤ length (drop at bytes) → (0 < place → (m : Mark) × IsShallow g.kind g.depth × IsNext g.kind g.depth besides (length (drop at bytes)) m × (take place (mark_bytes m) ≡ take place (drop at bytes)))
+        → Starts first bytes (at + place)
+    so_far near begins = go (place_is place)
       where
-        go : (place ≡ 0) ⊎ (0 < place) → Begins first bytes (at + place)
+        go : (place ≡ 0) ⊎ (0 < place) → Starts first bytes (at + place)
         go (inl z) =
             let rest = filled (g ∷ gs) (length bytes - at) (subst (λ (d : Elements). ElementsFillRoom d (length bytes - at)) r.counts r.fits) in
             begun (g ∷ gs) due place rest.parts small r (subst (λ (k : ℕ). Follows k (g ∷ gs) rest.parts) (sym z) rest.follows) rest.long (subst (λ (k : ℕ). take k (table_bytes rest.parts) ≡ take k (drop at bytes)) (sym z) refl)
         go (inr pos) =
-            let b = fault.begins pos in
+            let b = begins pos in
             let m = b.0 in
             let is = b.2 in
             let len = length-drop at bytes in
             let inside = is.within in
-            let near = fault.within in
             let rest = filled (behind g.depth m ∷ less g ∷ gs) (length (drop at bytes) - length (mark_bytes m))
             (subst (λ (d : Elements). ElementsFillRoom (elements_with (behind g.depth m).kind (behind g.depth m).count d) (length (drop at bytes) - length (mark_bytes m))) e is.fills) in
             let reach : place ≤ length (mark_bytes m) = omega (arith, length-take place (mark_bytes m), length-take place (drop at bytes), ap length b.3) in
@@ -127,8 +136,10 @@ module _ (first : List Group) (bytes : List ℕ) (ms : List Mark) (at : ℕ) whe
             (table-cons m rest.parts ∙ omega (arith, rest.long))
             (take-append-le place (mark_bytes m) (table_bytes rest.parts) reach ∙ b.3)
 
-    not_further : Begins first bytes (at + place + 1) → ⊥
-    not_further b =
+    -- none does with one byte more, where no part does
+    pub not_further : ((m : Mark) (w : List ℕ) → IsShallow g.kind g.depth → IsNext g.kind g.depth besides (length (drop at bytes)) m → take (place + 1) (mark_bytes m ++ w) ≡ take (place + 1) (drop at bytes) → ⊥)
+        → Starts first bytes (at + place + 1) → ⊥
+    not_further none b =
         let mine = long_read bytes ms at r.within r.read in
         let early = r.within in
         let len = length-drop at bytes in
@@ -143,7 +154,7 @@ module _ (first : List Group) (bytes : List ℕ) (ms : List Mark) (at : ℕ) whe
         let total : length bytes ≡ at + (length (mark_bytes i.mark) + length (table_bytes i.others)) =
         omega (arith, b.long, ap length whole, length-append (table_bytes ms) w, ap length w_is, length-append (mark_bytes i.mark) (table_bytes i.others), mine) in
         let long : length (table_bytes i.others) ≡ length (drop at bytes) - length (mark_bytes i.mark) = omega arith in
-        fault.none i.mark (table_bytes i.others) (i.shallow (omega arith))
+        none i.mark (table_bytes i.others) (i.shallow (omega arith))
         (record {
           valid = i.valid;
           of_kind = i.of_kind;
@@ -157,35 +168,3 @@ module _ (first : List Group) (bytes : List ℕ) (ms : List Mark) (at : ℕ) whe
         agree =
             let same : take (at + (place + 1)) (table_bytes b.parts) ≡ take (at + (place + 1)) bytes = subst (λ (k : ℕ). take k (table_bytes b.parts) ≡ take k bytes) (omega arith) b.agrees in
             sym (drop-take at (place + 1) (table_bytes b.parts)) ∙ ap (drop at) same ∙ drop-take at (place + 1) bytes
-
-    pub stops : IsLayoutFault first bytes (at + place)
-    stops =
-        let near = fault.within in
-        let len = length-drop at bytes in
-        record {
-          within = omega arith;
-          no_table = λ parts t. not_further (record {
-            parts = parts;
-            small = small;
-            follows = nearer_only (at + place + 1) (omega arith) t.follows;
-            long = ap length (sym t.spelled);
-            agrees = ap (take (at + place + 1)) (sym t.spelled);
-          });
-          begins = λ k pos le. let b = so_far in record {
-            parts = b.parts;
-            small = small;
-            follows = nearer_only k le b.follows;
-            long = b.long;
-            agrees = sym (take-take k (at + place) (table_bytes b.parts) le) ∙ ap (take k) b.agrees ∙ take-take k (at + place) bytes le;
-          };
-          none = λ lt b. not_further b;
-        }
-
--- what fits nothing has no table
-pub no_room : (gs : List Group) (bytes : List ℕ) → (length bytes < 2 ^ 32 → ElementsFillRoom (pending gs) (length bytes) → ⊥) → IsLayoutFault gs bytes 0
-no_room gs bytes none = record {
-  within = omega arith;
-  no_table = λ parts t. none t.small (subst (λ (k : ℕ). ElementsFillRoom (pending gs) k) (ap length (sym t.spelled)) (follows_fill t.follows));
-  begins = λ k pos le. absurd (omega arith);
-  none = λ lt b. none b.small (subst (λ (k : ℕ). ElementsFillRoom (pending gs) k) b.long (follows_fill b.follows));
-}

@@ -1,5 +1,5 @@
 -- Parts that follow groups are their items, one behind the other.
-use Rattle.std.proofs.Common.{◌≡◌, ℕ, suc, ◌-◌, List, [], ◌∷◌, refl, sym, subst, arith}
+use Rattle.std.proofs.Common.{◌≡◌, ℕ, suc, ◌-◌, ◌≤◌, List, [], ◌∷◌, length, refl, sym, subst, arith}
 use Rattle.wv_room.specs.declared.element_count.ElementKind.{ElementKind}
 use Rattle.wv_room.specs.declared.element_count.ElementKind.TheVariants as kinds
 use Rattle.wv_attr.specs.declared.mark.Mark.{Mark}
@@ -72,12 +72,19 @@ fronts (part {near} {g} {gs} {m} {ms} c valid kind shallow f) =
 no_group_left : {ms : List Mark} → GroupsFront [] ms → ms ≡ []
 no_group_left done = refl
 
-no_list_left : {ms next : List Mark} → ListsFront 0 ms next → ms ≡ next
+pub no_list_left : {ms next : List Mark} → ListsFront 0 ms next → ms ≡ next
 no_list_left (no_lists rest) = refl
 
-list_alone : {count : ℕ} {ms next : List Mark} → ListsFront 1 (marks.List count ∷ ms) next → AnnotationsFront count ms next
-list_alone (one_list count k ms next rest a more) = subst (λ (t : List Mark). AnnotationsFront count ms t) (no_list_left more) a
+-- lists are all there is
+pub lists_front : {near count : ℕ} {ms : List Mark} → Follows near (lists count) ms → ListsFront count ms []
+lists_front {near} {count} {ms} f = let s = split (fronts f) in subst (λ (t : List Mark). ListsFront count ms t) (no_group_left s.others) s.items
 
--- one list is all there is
-pub list_front : {near count : ℕ} {ms : List Mark} → Follows near (lists 1) (marks.List count ∷ ms) → AnnotationsFront count ms []
-list_front {near} {count} {ms} f = let s = split (fronts f) in subst (λ (t : List Mark). AnnotationsFront count ms t) (no_group_left s.others) (list_alone s.items)
+pub record Left (count : ℕ) (ms : List Mark) : Type 0 where
+  pub others : ℕ
+  pub one_more : suc others ≡ count
+  pub lists : ListsFront (suc others) ms []
+
+-- where parts are left, a list is
+pub lists_left : {count : ℕ} (ms : List Mark) → 1 ≤ length ms → ListsFront count ms [] → Left count ms
+lists_left ms le (no_lists rest) = absurd (omega arith)
+lists_left ms le (one_list size count ms2 next rest a l) = record { others = count; one_more = refl; lists = one_list size count ms2 next rest a l }

@@ -11,9 +11,10 @@ use Rattle.wv_attr.specs.declared.mark.Mark.{Mark}
 use Rattle.wv_attr.specs.declared.mark.Mark.TheVariants as marks
 use Rattle.wv_attr.specs.Marks.{two_bytes, is_constant_tag, mark_bytes}
 use Rattle.wv_attr.specs.Groups.{IsShallow}
-use Rattle.wv_attr.specs.Steps.{IsNext, StepFault, CountFault}
+use Rattle.wv_attr.specs.Steps.{padded, IsNext, StepFault, CountFault}
 use Rattle.wv_attr.proofs.Fills.{fills, least_room}
 use Rattle.wv_attr.proofs.Filling.{progress}
+use Rattle.wv_attr.proofs.Padding.{length-padded}
 
 abbrev pub AreBytes : List ℕ → Type 0
 AreBytes bytes = (i : ℕ) → get_or bytes i 0 < 256
@@ -40,15 +41,19 @@ one_begun a n lt b = go b.rest b.bytes b.wide b.spelled
     go (r ∷ []) all wide e = let small = all.0 in let is : n ≡ a * 256 + r = omega (arith, e) in (omega (arith, is), omega (arith, is))
     go (r ∷ s ∷ more) all wide e = absurd (omega arith)
 
-pub count_fault : (kind : ElementKind) (besides : Elements) (bytes : List ℕ) (place : ℕ) → AreBytes bytes → 2 ≤ length bytes → IsFirstFault (Allowed kind besides (length bytes - 2)) 2 bytes place → CountFault kind besides bytes place
-count_fault kind besides [] place h le f = absurd (omega arith)
-count_fault kind besides (a ∷ []) place h le f = absurd (omega arith)
-count_fault kind besides (a ∷ b ∷ w) zero h le f = record {
+room_behind : (a b : ℕ) (w : List ℕ) (missing : ℕ) → length (padded (a ∷ b ∷ w) missing) - 2 ≡ length (a ∷ b ∷ w) - 2 + missing
+room_behind a b w missing = omega (arith, length-padded w missing)
+
+pub count_fault : (kind : ElementKind) (besides : Elements) (bytes : List ℕ) (missing place : ℕ) → AreBytes bytes → 2 ≤ length bytes → IsFirstFault (Allowed kind besides (length bytes - 2 + missing)) 2 bytes place
+    → CountFault kind besides (padded bytes missing) place
+count_fault kind besides [] missing place h le f = absurd (omega arith)
+count_fault kind besides (a ∷ []) missing place h le f = absurd (omega arith)
+count_fault kind besides (a ∷ b ∷ w) missing zero h le f = record {
   within = omega arith;
   begins = λ never. absurd (omega arith);
   none = λ n is e. elim f.stopped [
     | inl ends ↦ absurd (omega arith)
-    | inr never ↦ never n is.fills (record {
+    | inr never ↦ never n (subst (λ (k : ℕ). Allowed kind besides k n) (room_behind a b w missing) is.fills) (record {
       rest = n % 256 ∷ [];
       bytes = (omega arith, tt);
       wide = refl;
@@ -56,15 +61,15 @@ count_fault kind besides (a ∷ b ∷ w) zero h le f = record {
     })
   ];
 }
-count_fault kind besides (a ∷ b ∷ w) (suc zero) h le f =
+count_fault kind besides (a ∷ b ∷ w) missing (suc zero) h le f =
     let began = f.begun (omega arith) in
     let is = one_begun a began.0 (h 0) began.2 in
     record {
       within = omega arith;
-      begins = λ pos. (began.0, record { narrow = is.0; fills = began.1 }, ap (λ (k : ℕ). k ∷ []) is.1);
+      begins = λ pos. (began.0, record { narrow = is.0; fills = subst (λ (k : ℕ). Allowed kind besides k began.0) (sym (room_behind a b w missing)) began.1 }, ap (λ (k : ℕ). k ∷ []) is.1);
       none = λ n is e. elim f.stopped [
         | inl ends ↦ absurd (omega arith)
-        | inr never ↦ never n is.fills (record {
+        | inr never ↦ never n (subst (λ (k : ℕ). Allowed kind besides k n) (room_behind a b w missing) is.fills) (record {
           rest = [];
           bytes = tt;
           wide = refl;
@@ -72,7 +77,7 @@ count_fault kind besides (a ∷ b ∷ w) (suc zero) h le f =
         })
       ];
     }
-count_fault kind besides (a ∷ b ∷ w) (suc (suc place)) h le f = let near = f.within in absurd (omega arith)
+count_fault kind besides (a ∷ b ∷ w) missing (suc (suc place)) h le f = let near = f.within in absurd (omega arith)
 
 pub name_step : (d : ℕ) (besides : Elements) (bytes : List ℕ) (name : ℕ) → name < 65536 → ElementsFillRoom (elements_with kinds.Pair 1 besides) (length bytes) → IsNext kinds.Pair d besides (length bytes) (marks.Name name)
 name_step d besides bytes name lt f =
@@ -158,14 +163,14 @@ annotation_fault d besides a b class rest place lt same le fits f =
           rw (high, low) (ap (λ (t : List ℕ). a ∷ b ∷ t) c.2),
         )
 
-pub annotation_step : (d : ℕ) (besides : Elements) (bytes : List ℕ) (class place : ℕ) → class < 65536 → two_bytes class ≡ get_or bytes 0 0 ∷ get_or bytes 1 0 ∷ []
-    → ElementsFillRoom (elements_with kinds.Annotation 1 besides) (length bytes) → CountFault kinds.Pair besides (take (length bytes - 2) (drop 2 bytes)) place → StepFault kinds.Annotation d besides bytes (2 + place)
-annotation_step d besides [] class place lt same fits f = let long = least_room fits in absurd (omega arith)
-annotation_step d besides (a ∷ []) class place lt same fits f = let long = least_room fits in absurd (omega arith)
-annotation_step d besides (a ∷ b ∷ w) class place lt same fits f =
-    let long = least_room fits in
+pub annotation_step : (d : ℕ) (besides : Elements) (bytes : List ℕ) (missing class place : ℕ) → class < 65536 → two_bytes class ≡ get_or bytes 0 0 ∷ get_or bytes 1 0 ∷ [] → 4 ≤ length bytes
+    → ElementsFillRoom (elements_with kinds.Annotation 1 besides) (length (padded bytes missing)) → CountFault kinds.Pair besides (padded (take (length bytes - 2) (drop 2 bytes)) missing) place
+    → StepFault kinds.Annotation d besides (padded bytes missing) (2 + place)
+annotation_step d besides [] missing class place lt same le fits f = absurd (omega arith)
+annotation_step d besides (a ∷ []) missing class place lt same le fits f = absurd (omega arith)
+annotation_step d besides (a ∷ b ∷ w) missing class place lt same le fits f =
     let all : take (length (a ∷ b ∷ w) - 2) w ≡ w = take_all (length (a ∷ b ∷ w) - 2) w (omega arith) in
-    annotation_fault d besides a b class w place lt same (omega arith) fits (subst (λ (t : List ℕ). CountFault kinds.Pair besides t place) all f)
+    annotation_fault d besides a b class (padded w missing) place lt same (omega (arith, length-padded w missing)) fits (subst (λ (t : List ℕ). CountFault kinds.Pair besides (padded t missing) place) all f)
 
 -- an array's tag and the number of its values
 array_only : (d : ℕ) (besides : Elements) (rest : List ℕ) (at : ℕ) (P : Type 0) → (m : Mark) (w : List ℕ) → IsNext kinds.Value d besides (length (91 ∷ rest)) m → take (suc at) (mark_bytes m ++ w) ≡ take (suc at) (91 ∷ rest)
@@ -220,3 +225,74 @@ array_fault d besides rest place shallow le some f =
           record { valid = omega (arith, c.1.narrow); of_kind = refl; within = omega arith; fills = subst (λ (k : ℕ). Allowed kinds.Value besides k c.0) (omega arith) c.1.fills },
           ap (λ (t : List ℕ). 91 ∷ t) c.2,
         )
+
+-- ---- a value by its tag
+
+-- none stands here that begins with a constant's tag
+constant_none : (d tag : ℕ) (besides : Elements) (rest : List ℕ) → (tag ≡ 101 → ⊥) → (tag ≡ 99 → ⊥) → (tag ≡ 64 → ⊥) → (tag ≡ 91 → ⊥)
+    → (IsTrue (is_constant_tag tag) → 2 ≤ length rest → Allowed kinds.Value besides (length rest - 2) 0 → ⊥) → (m : Mark) (w : List ℕ) → IsNext kinds.Value d besides (length (tag ∷ rest)) m
+    → take 1 (mark_bytes m ++ w) ≡ take 1 (tag ∷ rest) → ⊥
+constant_none d tag besides rest e c n a why (marks.List count) w is same = let k = is.of_kind in absurd cc
+constant_none d tag besides rest e c n a why (marks.Annotation class count) w is same = let k = is.of_kind in absurd cc
+constant_none d tag besides rest e c n a why (marks.Name name) w is same = let k = is.of_kind in absurd cc
+constant_none d tag besides rest e c n a why (marks.Constant t value) w is same =
+    let first : t ≡ tag = ap (λ (l : List ℕ). get_or l 0 0) same in
+    let long = is.within in
+    why (subst (λ (k : ℕ). IsTrue (is_constant_tag k)) first is.valid.0) (omega arith) (subst (λ (k : ℕ). Allowed kinds.Value besides k 0) (omega arith) is.fills)
+constant_none d tag besides rest e c n a why (marks.Enum descriptor name) w is same = let first : 101 ≡ tag = ap (λ (l : List ℕ). get_or l 0 0) same in e (sym first)
+constant_none d tag besides rest e c n a why (marks.Class descriptor) w is same = let first : 99 ≡ tag = ap (λ (l : List ℕ). get_or l 0 0) same in c (sym first)
+constant_none d tag besides rest e c n a why marks.Nested w is same = let first : 64 ≡ tag = ap (λ (l : List ℕ). get_or l 0 0) same in n (sym first)
+constant_none d tag besides rest e c n a why (marks.Array count) w is same = let first : 91 ≡ tag = ap (λ (l : List ℕ). get_or l 0 0) same in a (sym first)
+
+pub constant_fault : (d tag : ℕ) (besides : Elements) (rest : List ℕ) → (tag ≡ 101 → ⊥) → (tag ≡ 99 → ⊥) → (tag ≡ 64 → ⊥) → (tag ≡ 91 → ⊥)
+    → (IsTrue (is_constant_tag tag) → 2 ≤ length rest → Allowed kinds.Value besides (length rest - 2) 0 → ⊥) → StepFault kinds.Value d besides (tag ∷ rest) 0
+constant_fault d tag besides rest e c n a why = record {
+  within = omega arith;
+  begins = λ never. absurd (omega arith);
+  none = λ m w shallow is same. constant_none d tag besides rest e c n a why m w is same;
+}
+
+enum_none : (d : ℕ) (besides : Elements) (rest : List ℕ) → (4 ≤ length rest → Allowed kinds.Value besides (length rest - 4) 0 → ⊥) → (m : Mark) (w : List ℕ) → IsNext kinds.Value d besides (length (101 ∷ rest)) m
+    → take 1 (mark_bytes m ++ w) ≡ take 1 (101 ∷ rest) → ⊥
+enum_none d besides rest why (marks.List count) w is same = let k = is.of_kind in absurd cc
+enum_none d besides rest why (marks.Annotation class count) w is same = let k = is.of_kind in absurd cc
+enum_none d besides rest why (marks.Name name) w is same = let k = is.of_kind in absurd cc
+enum_none d besides rest why (marks.Constant t value) w is same =
+    let first : t ≡ 101 = ap (λ (l : List ℕ). get_or l 0 0) same in let bad : false ≡ true = subst (λ (k : ℕ). IsTrue (is_constant_tag k)) first is.valid.0 in absurd cc
+enum_none d besides rest why (marks.Enum descriptor name) w is same = let long = is.within in why (omega arith) (subst (λ (k : ℕ). Allowed kinds.Value besides k 0) (omega arith) is.fills)
+enum_none d besides rest why (marks.Class descriptor) w is same = let first : ◌≡◌ {A = ℕ} 99 101 = ap (λ (l : List ℕ). get_or l 0 0) same in absurd (omega arith)
+enum_none d besides rest why marks.Nested w is same = let first : ◌≡◌ {A = ℕ} 64 101 = ap (λ (l : List ℕ). get_or l 0 0) same in absurd (omega arith)
+enum_none d besides rest why (marks.Array count) w is same = let first : ◌≡◌ {A = ℕ} 91 101 = ap (λ (l : List ℕ). get_or l 0 0) same in absurd (omega arith)
+
+pub enum_fault : (d : ℕ) (besides : Elements) (rest : List ℕ) → (4 ≤ length rest → Allowed kinds.Value besides (length rest - 4) 0 → ⊥) → StepFault kinds.Value d besides (101 ∷ rest) 0
+enum_fault d besides rest why = record { within = omega arith; begins = λ never. absurd (omega arith); none = λ m w shallow is same. enum_none d besides rest why m w is same }
+
+class_none : (d : ℕ) (besides : Elements) (rest : List ℕ) → (2 ≤ length rest → Allowed kinds.Value besides (length rest - 2) 0 → ⊥) → (m : Mark) (w : List ℕ) → IsNext kinds.Value d besides (length (99 ∷ rest)) m
+    → take 1 (mark_bytes m ++ w) ≡ take 1 (99 ∷ rest) → ⊥
+class_none d besides rest why (marks.List count) w is same = let k = is.of_kind in absurd cc
+class_none d besides rest why (marks.Annotation class count) w is same = let k = is.of_kind in absurd cc
+class_none d besides rest why (marks.Name name) w is same = let k = is.of_kind in absurd cc
+class_none d besides rest why (marks.Constant t value) w is same =
+    let first : t ≡ 99 = ap (λ (l : List ℕ). get_or l 0 0) same in let bad : false ≡ true = subst (λ (k : ℕ). IsTrue (is_constant_tag k)) first is.valid.0 in absurd cc
+class_none d besides rest why (marks.Enum descriptor name) w is same = let first : ◌≡◌ {A = ℕ} 101 99 = ap (λ (l : List ℕ). get_or l 0 0) same in absurd (omega arith)
+class_none d besides rest why (marks.Class descriptor) w is same = let long = is.within in why (omega arith) (subst (λ (k : ℕ). Allowed kinds.Value besides k 0) (omega arith) is.fills)
+class_none d besides rest why marks.Nested w is same = let first : ◌≡◌ {A = ℕ} 64 99 = ap (λ (l : List ℕ). get_or l 0 0) same in absurd (omega arith)
+class_none d besides rest why (marks.Array count) w is same = let first : ◌≡◌ {A = ℕ} 91 99 = ap (λ (l : List ℕ). get_or l 0 0) same in absurd (omega arith)
+
+pub class_fault : (d : ℕ) (besides : Elements) (rest : List ℕ) → (2 ≤ length rest → Allowed kinds.Value besides (length rest - 2) 0 → ⊥) → StepFault kinds.Value d besides (99 ∷ rest) 0
+class_fault d besides rest why = record { within = omega arith; begins = λ never. absurd (omega arith); none = λ m w shallow is same. class_none d besides rest why m w is same }
+
+nested_none : (d : ℕ) (besides : Elements) (rest : List ℕ) → (Allowed kinds.Annotation besides (length rest) 1 → ⊥) → (m : Mark) (w : List ℕ) → IsNext kinds.Value d besides (length (64 ∷ rest)) m
+    → take 1 (mark_bytes m ++ w) ≡ take 1 (64 ∷ rest) → ⊥
+nested_none d besides rest why (marks.List count) w is same = let k = is.of_kind in absurd cc
+nested_none d besides rest why (marks.Annotation class count) w is same = let k = is.of_kind in absurd cc
+nested_none d besides rest why (marks.Name name) w is same = let k = is.of_kind in absurd cc
+nested_none d besides rest why (marks.Constant t value) w is same =
+    let first : t ≡ 64 = ap (λ (l : List ℕ). get_or l 0 0) same in let bad : false ≡ true = subst (λ (k : ℕ). IsTrue (is_constant_tag k)) first is.valid.0 in absurd cc
+nested_none d besides rest why (marks.Enum descriptor name) w is same = let first : ◌≡◌ {A = ℕ} 101 64 = ap (λ (l : List ℕ). get_or l 0 0) same in absurd (omega arith)
+nested_none d besides rest why (marks.Class descriptor) w is same = let first : ◌≡◌ {A = ℕ} 99 64 = ap (λ (l : List ℕ). get_or l 0 0) same in absurd (omega arith)
+nested_none d besides rest why marks.Nested w is same = why (subst (λ (k : ℕ). Allowed kinds.Annotation besides k 1) (omega arith) is.fills)
+nested_none d besides rest why (marks.Array count) w is same = let first : ◌≡◌ {A = ℕ} 91 64 = ap (λ (l : List ℕ). get_or l 0 0) same in absurd (omega arith)
+
+pub nested_fault : (d : ℕ) (besides : Elements) (rest : List ℕ) → (Allowed kinds.Annotation besides (length rest) 1 → ⊥) → StepFault kinds.Value d besides (64 ∷ rest) 0
+nested_fault d besides rest why = record { within = omega arith; begins = λ never. absurd (omega arith); none = λ m w shallow is same. nested_none d besides rest why m w is same }

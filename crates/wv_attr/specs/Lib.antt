@@ -6,3 +6,5 @@ pub mod Types
 pub mod References
 pub mod Fronts
 pub mod Meanings
+pub mod Pieces
+pub mod Writing

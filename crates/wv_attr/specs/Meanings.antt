@@ -1,5 +1,5 @@
 -- The annotations that parts with numbers of a pool are (JVM Specification 4.7.16 and 4.7.16.1).
-use Rattle.std.specs.Prelude.{◌≡◌, ℕ, List, [], ◌∷◌, ◌++◌, length, Bool, Option, Some, None, codes}
+use Rattle.std.specs.Prelude.{◌≡◌, ℕ, ◌+◌, List, [], ◌∷◌, ◌++◌, length, Bool, Option, Some, None, Result, Ok, Err, codes}
 use Rattle.std.specs.List.{AllByRecursion}
 use Rattle.wv_base.specs.declared.class_file.PoolEntry.{PoolEntry}
 use Rattle.wv_base.specs.declared.fault.ClassFault.{ClassFault}
@@ -12,7 +12,7 @@ use Rattle.wv_base.specs.declared.note.Element.TheVariants as elements
 use Rattle.wv_base.specs.declared.note.Note.{Note}
 use Rattle.wv_pool.specs.References.{text_of}
 use Rattle.wv_pool.specs.Constants.{constant_of}
-use Rattle.wv_attr.specs.Layout.{lists, IsTable, IsLayoutFault}
+use Rattle.wv_attr.specs.Layout.{lists, IsTable, IsLayoutFault, IsParameterTable, ParametersBreak}
 use Rattle.wv_attr.specs.References.{IsSound, FirstBreaks}
 use Rattle.wv_attr.specs.declared.mark.Mark.{Mark}
 use Rattle.wv_attr.specs.declared.mark.Mark.TheVariants as marks
@@ -59,6 +59,12 @@ pub record IsNoteList (pool : List PoolEntry) (visible : Bool) (notes : List Not
   pub starts : parts ≡ marks.List (length notes) ∷ list
   pub are : AreNotes pool visible None notes list []
 
+-- the annotations of the parameters from this place on: one list for each (4.7.18)
+pub data AreListed (pool : List PoolEntry) (visible : Bool) : ℕ → List Note → List Mark → Type 0 where
+  no_lists : (place : ℕ) → AreListed pool visible place [] []
+  one_list : (place : ℕ) (notes others : List Note) (ms next : List Mark) → AreNotes pool visible (Some place) notes ms next → AreListed pool visible (place + 1) others next
+      → AreListed pool visible place (notes ++ others) (marks.List (length notes) ∷ ms)
+
 -- the bytes are the annotations of a class or of a member, and their numbers name these
 pub record AreRead (pool : List PoolEntry) (visible : Bool) (bytes : List ℕ) (notes : List Note) : Type 0 where
   pub parts : List Mark
@@ -75,5 +81,34 @@ pub record IsReferenceFault (pool : List PoolEntry) (bytes : List ℕ) (at : ℕ
 -- the cause of a fault; one of the layout comes before every other
 abbrev pub NotesBreak : List PoolEntry → List ℕ → ClassFault → Type 0
 NotesBreak pool bytes faults.Memory = Unit {0}
-NotesBreak pool bytes (faults.Layout at) = IsLayoutFault (lists 1) bytes at
+NotesBreak pool bytes (faults.Layout at) = IsLayoutFault (lists 1) bytes 0 at
 NotesBreak pool bytes (faults.Reference at) = IsReferenceFault pool bytes at
+
+-- these annotations, unless memory ran out
+abbrev pub GivesNotes : Result (List Note) ClassFault → List Note → Type 0
+GivesNotes (Ok found) notes = found ≡ notes
+GivesNotes (Err faults.Memory) notes = Unit {0}
+GivesNotes (Err (faults.Layout at)) notes = ⊥
+GivesNotes (Err (faults.Reference at)) notes = ⊥
+
+-- the bytes are the annotations of a method's parameters, and their numbers name these
+pub record AreParametersRead (pool : List PoolEntry) (visible : Bool) (bytes : List ℕ) (notes : List Note) : Type 0 where
+  pub parts : List Mark
+  pub table : IsParameterTable bytes parts
+  pub sound : AllByRecursion (IsSound pool) parts
+  pub notes_are : AreListed pool visible 0 notes parts
+
+-- the bytes are such annotations, in which a number first breaks what it must meet at the place; one byte, the count of
+-- lists, stands before the parts
+pub record IsParameterReferenceFault (pool : List PoolEntry) (bytes : List ℕ) (at : ℕ) : Type 0 where
+  pub parts : List Mark
+  pub place : ℕ
+  pub table : IsParameterTable bytes parts
+  pub breaks : FirstBreaks pool parts place
+  pub later : at ≡ place + 1
+
+-- the cause of a fault in a table of parameters; one of the layout comes before every other
+abbrev pub ParameterNotesBreak : List PoolEntry → List ℕ → ClassFault → Type 0
+ParameterNotesBreak pool bytes faults.Memory = Unit {0}
+ParameterNotesBreak pool bytes (faults.Layout at) = ParametersBreak bytes 0 (faults.Layout at)
+ParameterNotesBreak pool bytes (faults.Reference at) = IsParameterReferenceFault pool bytes at

@@ -1,5 +1,5 @@
 //! The layout of a table: its parts, whatever their numbers name.
-ghost use Rattle.std.specs.Prelude.{◌≡◌, ◌↔◌, ◌^◌, ◌<◌, [], ◌∷◌, List, length, IsTrue, IfOk, IfErr};
+ghost use Rattle.std.specs.Prelude.{◌≡◌, ◌↔◌, ◌+◌, ◌^◌, ◌<◌, [], ◌∷◌, List, length, IsTrue, IfOk, IfErr};
 ghost use Rattle.std.specs.Result.{result_map_both};
 ghost use Rattle.wv_room.specs.Counts.{ElementsFillRoom};
 ghost use Rattle.wv_attr.specs.declared.mark.Mark.{Mark};
@@ -8,7 +8,7 @@ ghost use Rattle.wv_attr.specs.Layout.{lists, IsTable, GivesParts, LayoutBreaks,
 
 use crate::group::{Group, with, without};
 use crate::mark::Mark;
-use crate::step::mark_at;
+use crate::step::next_mark;
 use std::alloc::Global;
 use wv_base::ClassFault;
 use wv_room::{ElementKind, Elements};
@@ -20,13 +20,18 @@ const NOTHING: Elements = Elements {
     parameters: 0,
 };
 
-/// The parts of these items, which have the bytes.
-fn marks_in(alloc: Global, first: Group, bytes: &[u8]) -> Result<Vec<Mark>, ClassFault>
-    requires small { length bytes.now < 2 ^ 32 }
-    requires fits { ElementsFillRoom (pending (first ∷ [])) (length bytes.now) }
-    ensures found { IfOk result (λ parts. IsTable (first ∷ []) bytes.now parts.items) }
-    ensures only { (parts : List Mark) → IsTable (first ∷ []) bytes.now parts → GivesParts (result_map_both (λ x. x.items) (λ e. e) result) parts }
-    ensures fault { IfErr result (LayoutBreaks (first ∷ []) bytes.now) }
+/// The parts of these items, which have the bytes and so many more that are missing.
+fn marks_in(
+    alloc: Global,
+    first: Group,
+    bytes: &[u8],
+    missing: u32,
+) -> Result<Vec<Mark>, ClassFault>
+    requires small { length bytes.now + missing < 2 ^ 32 }
+    requires fits { ElementsFillRoom (pending (first ∷ [])) (length bytes.now + missing) }
+    ensures found { IfOk result (λ parts. (missing ≡ 0) × IsTable (first ∷ []) bytes.now parts.items) }
+    ensures only { missing ≡ 0 → (parts : List Mark) → IsTable (first ∷ []) bytes.now parts → GivesParts (result_map_both (λ x. x.items) (λ e. e) result) parts }
+    ensures fault { IfErr result (LayoutBreaks (first ∷ []) bytes.now missing) }
 {
     let mut marks = Vec::new(alloc);
     let mut groups = vec![in alloc; first]?;
@@ -37,7 +42,7 @@ fn marks_in(alloc: Global, first: Group, bytes: &[u8]) -> Result<Vec<Mark>, Clas
             continue;
         }
         let besides = without(due, group.kind);
-        let mark = match mark_at(group, besides, &bytes[at..]) {
+        let mark = match next_mark(group, besides, &bytes[at..], missing) {
             Ok(mark) => mark,
             Err(place) => return Err(ClassFault::Layout { at: at + place }),
         };
@@ -66,50 +71,56 @@ fn lists(count: u16) -> Group
     }
 }
 
-/// Whether so many lists can have the bytes.
-fn fills(count: u16, bytes: &[u8]) -> bool
-    ensures { IsTrue result ↔ ((length bytes.now < 2 ^ 32) × ElementsFillRoom (pending (lists count)) (length bytes.now)) }
+/// Whether so many lists can have so many bytes.
+fn fills(count: u16, room: u32) -> bool
+    ensures { IsTrue result ↔ ElementsFillRoom (pending (lists count)) room }
 {
-    let Ok(room) = u32::try_from(bytes.len()) else {
-        return false;
-    };
     let first = lists(count);
     with(NOTHING, first.kind, first.count).fits(room)
 }
 
-/// The parts of the annotations of a class or of a member, whatever their numbers name: `bytes` is the
-/// content of one RuntimeVisibleAnnotations or RuntimeInvisibleAnnotations attribute, which they fill
-/// (JVM Specification 4.7.16 and 4.7.17). Values nest at most 255 deep. The place of a fault counts
-/// from the start of `bytes`.
-pub fn read_layout(alloc: Global, bytes: &[u8]) -> Result<Vec<Mark>, ClassFault>
-    ensures found { IfOk result (λ parts. IsTable (lists 1) bytes.now parts.items) }
+/// The parts of the annotations of a class or of a member, whatever their numbers name: `bytes` are the
+/// first of the content of one RuntimeVisibleAnnotations or RuntimeInvisibleAnnotations attribute,
+/// which has so many more that are missing (JVM Specification 4.7.16 and 4.7.17). There are parts
+/// where none is missing and they fill it. Values nest at most 255 deep. The place of a fault counts
+/// from the start of `bytes`: it is the first byte with which no content of that size goes on, or the
+/// end of `bytes`.
+pub fn read_layout(alloc: Global, bytes: &[u8], missing: u32) -> Result<Vec<Mark>, ClassFault>
+    requires { length bytes.now + missing < 2 ^ 32 }
+    ensures found { IfOk result (λ parts. (missing ≡ 0) × IsTable (lists 1) bytes.now parts.items) }
     // What has this layout is read, unless memory runs out.
-    ensures only { (parts : List Mark) → IsTable (lists 1) bytes.now parts → GivesParts (result_map_both (λ x. x.items) (λ e. e) result) parts }
-    ensures fault { IfErr result (LayoutBreaks (lists 1) bytes.now) }
+    ensures only { missing ≡ 0 → (parts : List Mark) → IsTable (lists 1) bytes.now parts → GivesParts (result_map_both (λ x. x.items) (λ e. e) result) parts }
+    ensures fault { IfErr result (LayoutBreaks (lists 1) bytes.now missing) }
 {
-    if !fills(1, bytes) {
+    if !fills(1, bytes.len() as u32 + missing) {
         return Err(ClassFault::Layout { at: 0 });
     }
-    marks_in(alloc, lists(1), bytes)
+    marks_in(alloc, lists(1), bytes, missing)
 }
 
-/// The parts of the annotations of a method's parameters, whatever their numbers name: `bytes` is the
-/// content of one RuntimeVisibleParameterAnnotations or RuntimeInvisibleParameterAnnotations
-/// attribute, a count of lists and a list for each parameter, which fill it (JVM Specification 4.7.18
-/// and 4.7.19). The place of a fault counts from the start of `bytes`.
-pub fn read_parameter_layout(alloc: Global, bytes: &[u8]) -> Result<Vec<Mark>, ClassFault>
-    ensures found { IfOk result (λ parts. IsParameterTable bytes.now parts.items) }
-    ensures only { (parts : List Mark) → IsParameterTable bytes.now parts → GivesParts (result_map_both (λ x. x.items) (λ e. e) result) parts }
-    ensures fault { IfErr result (ParametersBreak bytes.now) }
+/// The parts of the annotations of a method's parameters, whatever their numbers name: `bytes` are the
+/// first of the content of one RuntimeVisibleParameterAnnotations or
+/// RuntimeInvisibleParameterAnnotations attribute, which has so many more that are missing. It is a
+/// count of lists and a list for each parameter, which fill it (JVM Specification 4.7.18 and 4.7.19).
+/// There are parts where none is missing. The place of a fault counts from the start of `bytes`.
+pub fn read_parameter_layout(
+    alloc: Global,
+    bytes: &[u8],
+    missing: u32,
+) -> Result<Vec<Mark>, ClassFault>
+    requires { length bytes.now + missing < 2 ^ 32 }
+    ensures found { IfOk result (λ parts. (missing ≡ 0) × IsParameterTable bytes.now parts.items) }
+    ensures only { missing ≡ 0 → (parts : List Mark) → IsParameterTable bytes.now parts → GivesParts (result_map_both (λ x. x.items) (λ e. e) result) parts }
+    ensures fault { IfErr result (ParametersBreak bytes.now missing) }
 {
     let [count, rest @ ..] = bytes else {
         return Err(ClassFault::Layout { at: 0 });
     };
     let count = u16::from(*count);
-    if !fills(count, rest) {
+    if !fills(count, rest.len() as u32 + missing) {
         return Err(ClassFault::Layout { at: 0 });
     }
-    match marks_in(alloc, lists(count), rest) {
+    match marks_in(alloc, lists(count), rest, missing) {
         Ok(parts) => Ok(parts),
         Err(ClassFault::Layout { at }) => Err(ClassFault::Layout { at: at + 1 }),
         Err(fault) => Err(fault),

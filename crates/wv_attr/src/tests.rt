@@ -86,9 +86,23 @@ const PARTS: [Mark; 32] = [
     Mark::Array { count: 0 },
 ];
 
-/// Where the bytes first break the layout.
-fn fault(alloc: Global, bytes: &[u8]) -> Option<usize> {
-    match read_layout(alloc, bytes) {
+/// Where the bytes, behind which so many are missing, first break the layout.
+fn fault(alloc: Global, bytes: &[u8], missing: u16) -> Option<usize> {
+    if bytes.len() > 0xFFFF {
+        return None;
+    }
+    match read_layout(alloc, bytes, u32::from(missing)) {
+        Err(ClassFault::Layout { at }) => Some(at),
+        _ => None,
+    }
+}
+
+/// The same of a table of parameters.
+fn lists_fault(alloc: Global, bytes: &[u8], missing: u16) -> Option<usize> {
+    if bytes.len() > 0xFFFF {
+        return None;
+    }
+    match read_parameter_layout(alloc, bytes, u32::from(missing)) {
         Err(ClassFault::Layout { at }) => Some(at),
         _ => None,
     }
@@ -96,17 +110,20 @@ fn fault(alloc: Global, bytes: &[u8]) -> Option<usize> {
 
 /// Where the numbers of parts with these bytes first break what they must meet.
 fn broken(alloc: Global, pool: &Pool, bytes: &[u8]) -> Result<Option<usize>, ClassFault> {
+    if bytes.len() > 0xFFFF {
+        return Ok(None);
+    }
     let types = Types::of(alloc, pool)?;
-    let parts = read_layout(alloc, bytes)?;
+    let parts = read_layout(alloc, bytes, 0)?;
     Ok(first_break(pool, &types, &parts))
 }
 
 #[test]
 fn each_kind_of_element(rt: HostRuntime) -> Result<(), Fail> {
-    let parts = read_layout(rt.alloc(), &KINDS)?;
+    let parts = read_layout(rt.alloc(), &KINDS, 0)?;
     assert!(rt; parts.as_slice() == PARTS.as_slice());
     for end in 0..KINDS.len() {
-        let at = fault(rt.alloc(), &KINDS[..end]);
+        let at = fault(rt.alloc(), &KINDS[..end], 0);
         assert!(rt; at.is_some_and(|at| at <= end), "cut at {end}");
     }
     Ok(())
@@ -154,8 +171,48 @@ fn layouts(rt: HostRuntime) {
         ),
     ];
     for (bytes, want) in cases {
-        assert_eq!(rt; fault(rt.alloc(), bytes), want, "{bytes:?}");
+        assert_eq!(rt; fault(rt.alloc(), bytes, 0), want, "{bytes:?}");
     }
+}
+
+#[test]
+fn bytes_that_are_missing(rt: HostRuntime) {
+    // What is there of one annotation with one text is right up to its end, wherever it ends.
+    let bytes = [0, 1, 0, 1, 0, 1, 0, 2, b's', 0, 2];
+    for end in 0..bytes.len() {
+        let missing = (bytes.len() - end) as u16;
+        assert_eq!(rt;
+            fault(rt.alloc(), &bytes[..end], missing),
+            Some(end),
+            "cut at {end}"
+        );
+    }
+    let cases: [(&[u8], u16, Option<usize>); 9] = [
+        // No table has three bytes.
+        (&[0, 0], 1, Some(0)),
+        // Two annotations have ten bytes or more.
+        (&[0, 2], 4, Some(1)),
+        (&[0, 2], 8, Some(2)),
+        (&[0, 1, 9, 9, 0], 1, Some(5)),
+        (&[0, 1, 9, 9, 1], 1, Some(4)),
+        // An enum's value has five bytes.
+        (&[0, 1, 0, 1, 0, 1, 0, 2, b'e'], 2, Some(8)),
+        (&[0, 1, 0, 1, 0, 1, 0, 2, b'e'], 4, Some(9)),
+        (&[0, 1, 0, 1, 0, 1, 0, 2, b'[', 0], 1, Some(10)),
+        (&[0, 1, 0, 1, 0, 1, 0, 2, b'[', 1], 1, Some(9)),
+    ];
+    for (bytes, missing, want) in cases {
+        assert_eq!(rt;
+            fault(rt.alloc(), bytes, missing),
+            want,
+            "{bytes:?} {missing}"
+        );
+    }
+    assert_eq!(rt; lists_fault(rt.alloc(), &[], 1), Some(0));
+    assert_eq!(rt; lists_fault(rt.alloc(), &[1], 2), Some(1));
+    assert_eq!(rt; lists_fault(rt.alloc(), &[1], 1), Some(0));
+    assert_eq!(rt; lists_fault(rt.alloc(), &[2, 0, 0, 0], 1), Some(4));
+    assert_eq!(rt; lists_fault(rt.alloc(), &[2, 0, 1, 0], 1), Some(2));
 }
 
 /// A table with arrays so many deep, the innermost of them empty.
@@ -179,7 +236,27 @@ fn values_nest_255_deep(rt: HostRuntime) -> Result<(), Fail> {
         (257, Some(773)),
     ] {
         let bytes = nest(rt.alloc(), depth)?;
-        assert_eq!(rt; fault(rt.alloc(), &bytes), want, "{depth} deep");
+        assert_eq!(rt; fault(rt.alloc(), &bytes, 0), want, "{depth} deep");
+    }
+    Ok(())
+}
+
+/// A table with annotations so many deep as values, the innermost of them without elements.
+fn nested(alloc: Global, depth: usize) -> Result<Vec<u8>, Fail> {
+    let mut bytes = Vec::new(alloc);
+    bytes.extend_from_slice(&[0, 1, 0, 1, 0, 1, 0, 2])?;
+    for _ in 1..depth {
+        bytes.extend_from_slice(&[b'@', 0, 1, 0, 1, 0, 2])?;
+    }
+    bytes.extend_from_slice(&[b'@', 0, 1, 0, 0])?;
+    Ok(bytes)
+}
+
+#[test]
+fn annotations_nest_255_deep(rt: HostRuntime) -> Result<(), Fail> {
+    for (depth, want) in [(1, None), (255, None), (256, Some(1793)), (257, Some(1793))] {
+        let bytes = nested(rt.alloc(), depth)?;
+        assert_eq!(rt; fault(rt.alloc(), &bytes, 0), want, "{depth} deep");
     }
     Ok(())
 }
@@ -196,13 +273,9 @@ fn tables_of_parameters(rt: HostRuntime) -> Result<(), Fail> {
         (&[1, 0, 0, 0, 0], Some(0)),
     ];
     for (bytes, want) in cases {
-        let at = match read_parameter_layout(rt.alloc(), bytes) {
-            Err(ClassFault::Layout { at }) => Some(at),
-            _ => None,
-        };
-        assert_eq!(rt; at, want, "{bytes:?}");
+        assert_eq!(rt; lists_fault(rt.alloc(), bytes, 0), want, "{bytes:?}");
     }
-    let parts = read_parameter_layout(rt.alloc(), &[2, 0, 0, 0, 1, 0, 1, 0, 0])?;
+    let parts = read_parameter_layout(rt.alloc(), &[2, 0, 0, 0, 1, 0, 1, 0, 0], 0)?;
     let want = [
         Mark::List { count: 0 },
         Mark::List { count: 1 },

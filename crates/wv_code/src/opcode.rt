@@ -21,5 +21,3 @@ pub(crate) const INVOKEINTERFACE: u8 = 0xb9;
 pub(crate) const NEW: u8 = 0xbb;
 
 pub(crate) const GOTO_W: u8 = 0xc8;
-
-pub(crate) const NEW: u8 = 0xbb;

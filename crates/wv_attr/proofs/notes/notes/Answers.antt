@@ -15,6 +15,7 @@ loop-alloc-init c =
       all = λ rest f. subst (λ (k : ℕ). AnnotationsFront k c.args.parts.now rest) (sym all) f;
       few = omega (arith, ap length none);
       read = subst (λ (ns : List Note). AreNotes c.args.pool.now c.args.visible c.args.parameter ns c.args.parts.now c.args.parts.now) (sym none) (no_notes c.args.parts.now);
+      shorter = omega arith;
       sound = c.requires.sound;
     }
 
@@ -30,6 +31,7 @@ loop-alloc-preserved c =
       all = λ rest f. subst (λ (k : ℕ). AnnotationsFront k v.after.now rest) left (meaning.annotations_step _ _ v.after.now _ more v.ensures.rest (l.invariant.all rest f));
       few = omega (arith, ap length pushed, length-append {A = Note}, more);
       read = subst (λ (ns : List Note). AreNotes c.args.pool.now c.args.visible c.args.parameter ns c.args.parts.now v.after.now) (sym pushed) (meaning.notes_more c.args.pool.now c.args.visible c.args.parameter l.found.items v.annotation c.args.parts.now l.rest.now v.after.now l.invariant.read v.ensures.read);
+      shorter = omega (arith, v.ensures.shorter, l.invariant.shorter);
       sound = v.ensures.sound;
     }
 

@@ -12,6 +12,7 @@ invariant-loop-alloc l = record {
   all : (rest : List Mark) → AnnotationsFront l.count l.initial.rest rest → AnnotationsFront (l.count - length l.found.items) l.rest rest;
   few : length l.found.items ≤ l.count;
   read : AreNotes l.pool l.visible l.parameter l.found.items l.initial.rest l.rest;
+  shorter : length l.rest ≤ length l.initial.rest;
   sound : AllByRecursion (IsSound l.pool) l.rest;
 }
 
