@@ -1,11 +1,11 @@
-//! Laying out, writing and splitting code with many switches.
+//! Laying out, writing and reading code with many switches.
 
 use anyhow::{Result, anyhow};
 use std::alloc::Global;
 use std::rt::Clock;
 use std::time::{Duration, Instant};
-use wv_base::{Body, Case, Insn, Items};
-use wv_code::{are_formed, layout, split_code, write_insns};
+use wv_base::{Body, Case, Frame, Insn, Items};
+use wv_code::{is_formed, is_start, layout, read_code, write_code};
 use wv_pool::Pool;
 
 fn switch(alloc: Global) -> Result<Insn> {
@@ -33,25 +33,35 @@ fn switches(alloc: Global, count: usize) -> Result<Body> {
     })
 }
 
-/// Lays the body out, writes it and splits what was written; answers its length.
-fn there_and_back(alloc: Global, body: &Body) -> Result<usize> {
-    let mut pool = Pool::from_entries(alloc, Vec::new(alloc))?;
-    if !are_formed(body.insns.as_slice())? {
-        return Err(anyhow!("instructions that no class file has"));
+/// The body that the content of a Code attribute spells in a static method without parameters.
+fn read(alloc: Global, content: &[u8], pool: &Pool) -> Result<Body> {
+    let first = Frame {
+        locals: Items::new(alloc),
+        stack: Items::new(alloc),
+        this_uninitialized: false,
+    };
+    if content.len() > 100_000 || !is_start(&first) {
+        return Err(anyhow!("a content that is too long"));
     }
-    let layout = layout(alloc, body, &mut pool)?;
-    let code = write_insns(alloc, body.insns.as_slice(), &layout, &mut pool)?;
-    if code.len() > 65535 {
-        return Err(anyhow!("code that is too long"));
-    }
-    let split = split_code(alloc, code.as_slice())?;
-    if split.raws.len() != body.insns.len() {
-        return Err(anyhow!("another number of instructions"));
-    }
-    Ok(code.len())
+    Ok(read_code(alloc, content, pool, &first)?)
 }
 
-/// Prints how long code of 250 to 2,000 switches takes, the last of 64,000 bytes.
+/// Lays the body out, writes it and reads what was written; answers its length.
+fn there_and_back(alloc: Global, body: &Body) -> Result<usize> {
+    let mut pool = Pool::from_entries(alloc, Vec::new(alloc))?;
+    if !is_formed(body, &pool)? {
+        return Err(anyhow!("a body that no class file has"));
+    }
+    let layout = layout(alloc, body, &mut pool)?;
+    let content = write_code(alloc, body, &layout, &mut pool)?;
+    let again = read(alloc, content.as_slice(), &pool)?;
+    if again.insns.len() != body.insns.len() {
+        return Err(anyhow!("another number of instructions"));
+    }
+    Ok(content.len())
+}
+
+/// Prints how long bodies of 250 to 2,000 switches take, the last with 64,000 bytes of code.
 pub(crate) fn time<R: Clock + AllocGlobal + Print>(rt: &R, rounds: usize) -> Result<()> {
     for count in [250usize, 500, 1000, 2000] {
         let body = switches(rt.alloc(), count)?;
