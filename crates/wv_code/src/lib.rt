@@ -57,6 +57,8 @@ pub use writing::write_insns;
 #[cfg(test)]
 mod body_tests;
 #[cfg(test)]
+mod content_tests;
+#[cfg(test)]
 mod fitting_tests;
 #[cfg(test)]
 mod reference_tests;

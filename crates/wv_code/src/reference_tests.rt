@@ -1,14 +1,11 @@
 //! The first item of a content that breaks what it must meet, on code written out in bytes.
-ghost use Rattle.std.specs.Prelude.{◌≡◌, ◌↔◌, ℕ, ◌<◌, ◌^◌, List, length, IsTrue, IfOk};
-ghost use Rattle.std.specs.List.{AllByRecursion};
-ghost use Rattle.wv_code.specs.Content.{IsRange, NamesFrames, IsAttribute, IsContent};
 
 use super::*;
 use std::alloc::Global;
 use std::process::Abort;
 use std::test::*;
-use wv_base::{Attribute, Bytes, ClassFault, Frame, Items};
-use wv_pool::{Pool, read_pool};
+use wv_base::{Frame, Items};
+use wv_pool::read_pool;
 
 /// The pool 1 A, 2 Class 1, 3 [[I, 4 Class 3, 5 f, 6 I, 7 f I, 8 Field 2 7, 9 ()V, 10 f ()V, 11 Method
 /// 2 10, 12 (IJ)V, 13 f (IJ)V, 14 InterfaceMethod 2 13, 15 InvokeDynamic 10, 16 StackMapTable, 17 a
@@ -23,128 +20,18 @@ const POOL: [u8; 105] = [
 /// An exception table and an attribute table without entries.
 const NOTHING: [u8; 4] = [0, 0, 0, 0];
 
-fn byte(bytes: &[u8], at: usize) -> u8 {
-    bytes.get(at).copied().unwrap_or(0)
-}
-
-fn number(bytes: &[u8], at: usize) -> u16 {
-    if at >= 0x1_0000 {
-        return 0;
-    }
-    u16::from(byte(bytes, at)) * 256 + u16::from(byte(bytes, at + 1))
-}
-
-fn range_at(bytes: &[u8], at: usize) -> RawRange
-    requires { at < 2 ^ 20 }
-    ensures { IsRange result }
-{
-    RawRange {
-        start: number(bytes, at),
-        end: number(bytes, at + 2),
-        handler: number(bytes, at + 4),
-        catch: number(bytes, at + 6),
-    }
-}
-
-/// The ranges of an exception table behind its count.
-fn ranges_in(alloc: Global, count: u16, bytes: &[u8]) -> Result<Items<RawRange>, ClassFault>
-    ensures ranges { IfOk result (AllByRecursion IsRange) }
-    ensures few { IfOk result (λ ranges. length ranges ≡ count) }
-{
-    let mut ranges = Items::new(alloc);
-    for index in 0..count {
-        ranges.push(range_at(bytes, 2 + 8 * usize::from(index)))?;
-    }
-    Ok(ranges)
-}
-
-/// An attribute; its content is frames or nothing.
-fn attribute(
-    alloc: Global,
-    pool: &Pool,
-    name: u16,
-    content: &[u8],
-) -> Result<RawAttribute, ClassFault>
-    requires { length content.now < 2 ^ 16 }
-    ensures { IfOk result (IsAttribute pool.now) }
-{
-    if names_frames(pool, name) {
-        let frames = Items::from_vec(wv_frames::read_layout(alloc, content)?);
-        return Ok(RawAttribute::Frames { name, frames });
-    }
-    let content = Bytes::new(alloc);
-    Ok(RawAttribute::Kept(Attribute { name, content }))
-}
-
-/// Whether the number is that of the name of a StackMapTable.
-fn names_frames(pool: &Pool, name: u16) -> bool
-    ensures { IsTrue result ↔ NamesFrames pool.now name }
-{
-    match pool.text(name) {
-        Some(text) => text.is_ascii("StackMapTable"),
-        None => false,
-    }
-}
-
-/// The attributes behind their count.
-fn attributes_in(
-    alloc: Global,
-    pool: &Pool,
-    count: u16,
-    bytes: &[u8],
-) -> Result<Items<RawAttribute>, ClassFault>
-    ensures attributes { IfOk result (AllByRecursion (IsAttribute pool.now)) }
-    ensures few { IfOk result (λ attributes. length attributes ≡ count) }
-{
-    let mut attributes = Items::new(alloc);
-    let mut rest = bytes;
-    for _ in 0..count {
-        let end = 6 + usize::from(number(rest, 4));
-        if end > rest.len() {
-            return Err(ClassFault::Layout { at: end });
-        }
-        attributes.push(attribute(alloc, pool, number(rest, 0), &rest[6..end])?)?;
-        rest = &rest[end..];
-    }
-    Ok(attributes)
-}
-
-/// A content with this code, behind which the exception table and the attributes stand.
-fn content(
-    alloc: Global,
-    pool: &Pool,
-    code: &[u8],
-    rest: &[u8],
-) -> Result<RawBody, ClassFault>
-    requires { length code.now < 2 ^ 20 }
-    ensures { IfOk result (λ raw. (bytes : List ℕ) × IsContent pool.now raw bytes) }
-{
-    let len = code.len() as u32;
-    let split = split_code(alloc, code)?;
-    let count = number(rest, 0);
-    let ranges = ranges_in(alloc, count, rest)?;
-    let behind = 2 + 8 * usize::from(count);
-    if behind + 2 > rest.len() {
-        return Err(ClassFault::Layout { at: behind });
-    }
-    let attributes = attributes_in(alloc, pool, number(rest, behind), &rest[behind + 2..])?;
-    Ok(RawBody {
-        max_stack: 0,
-        max_locals: 0,
-        len,
-        code: split,
-        ranges,
-        attributes,
-    })
-}
-
-/// The place of the first break in a method without parameters.
+/// The place of the first break in a method without parameters, of a content with this code, behind
+/// which the exception table and the attributes stand.
 fn place(alloc: Global, code: &[u8], rest: &[u8]) -> Result<Option<usize>, Fail> {
-    if code.len() > 0x1_0000 {
-        return Err("the code is long".into());
+    let mut content = [0, 0, 0, 0].to_vec(alloc)?;
+    content.extend_from_slice(&(code.len() as u32).to_be_bytes())?;
+    content.extend_from_slice(code)?;
+    content.extend_from_slice(rest)?;
+    if content.len() > 0x2_0000 {
+        return Err("the content is long".into());
     }
     let (pool, _len) = read_pool(alloc, &POOL)?;
-    let raw = content(alloc, &pool, code, rest)?;
+    let raw = read_layout(alloc, &content, &pool, 0)?;
     let first = Frame {
         locals: Items::new(alloc),
         stack: Items::new(alloc),
