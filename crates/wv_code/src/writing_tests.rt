@@ -120,11 +120,13 @@ fn plain(alloc: Global) -> Result<Body, Fail> {
 }
 
 fn written(alloc: Global, body: &Body, pool: &mut Pool) -> Result<Result<Bytes, PoolFault>, Fail> {
+    if !are_formed(body.insns.as_slice())? {
+        return Err("the instructions aren't formed".into());
+    }
+    let layout = layout(alloc, body, pool)?;
     if !is_formed(body, pool)? {
         return Err("the body isn't formed".into());
     }
-    let layout = layout(alloc, body, pool)?;
-    formed_stays();
     Ok(write_code(alloc, body, &layout, pool))
 }
 
