@@ -1,35 +1,24 @@
 -- The attributes of a Code attribute: how each is read, and what fits.
-use Rattle.std.proofs.Common.{◌≡◌, ℕ, zero, suc, ◌+◌, ◌-◌, ◌*◌, ◌^◌, ◌<◌, ◌≤◌, Bool, true, false, cond, ltb, List, [], ◌∷◌, ◌++◌, length, take, drop, replicate, Option, Some, None, Result, Ok, Err, codes, refl, sym, ap, subst, ◌∙◌, ◌⊎◌, inl, inr, arith, append_assoc}
-use Rattle.std.specs.List.{flat_map, AllByRecursion}
-use Rattle.std.specs.Prelude.{bytes_eq}
-use Rattle.std.proofs.lemmas.Bool.{cases_Bool, cases_lt, ltb-true, ltb-false, le-ltb, lt-ltb}
-use Rattle.std.proofs.lemmas.List.{length-append, append-nil, take-append-drop, length-take, length-drop, length-replicate, take_at, drop_at, take_all, nil_from_length}
-use Rattle.std.proofs.lemmas.Slice.Eq.{bytes_eq-Decides}
-use Rattle.wv_base.specs.declared.class_file.PoolEntry.{PoolEntry}
-use Rattle.wv_base.specs.declared.class_file.Attribute.{Attribute}
-use Rattle.wv_pool.specs.Reading.{◌>>=◌}
-use Rattle.wv_pool.specs.Entries.{number_bytes}
-use Rattle.wv_pool.specs.References.{text_of}
+use Rattle.std.proofs.Common.{◌≡◌, ℕ, zero, suc, ◌+◌, ◌-◌, ◌^◌, ◌<◌, ◌≤◌, false, ltb, List, [], ◌∷◌, ◌++◌, length, take, drop, replicate, Result, Ok, Err, refl, sym, ap, subst, ◌∙◌, inl, inr, arith, append_assoc}
+use Rattle.std.proofs.lemmas.Bool.{ltb-true, ltb-false, le-ltb}
+use Rattle.std.proofs.lemmas.List.{length-append, take-append-drop, length-take, length-drop, length-replicate, take_at, drop_at, take_all}
 use Rattle.wv_frames.specs.declared.raw.RawFrame.{RawFrame}
 use Rattle.wv_frames.specs.Spelling.{table_bytes, IsLayout}
 use Rattle.wv_frames.specs.Reading.{table_at}
-use Rattle.wv_frames.proofs.Readers.{IsBytes, IsBytes-behind, Fill, Begun, Broken, Ended, Stopped, Taken, Reads, resized, renamed, done, Then, then, Seen, seen, alike, ok_is}
+use Rattle.wv_frames.proofs.Readers.{IsBytes, Fill, Begun, Stopped, Taken, Reads, ok_is}
 use Rattle.std.proofs.Math.Seq.{take-append-add}
 use Rattle.wv_room.specs.Frames.{FramesFill}
 use Rattle.wv_room.specs.Frames as fills
 use Rattle.wv_room.proofs.FrameSizes.{reached}
 use Rattle.wv_pool.proofs.PlainEntries.{IsBytes-take}
-use Rattle.wv_frames.proofs.Tags.{Short, chosen_ok, chosen_err}
+use Rattle.wv_frames.proofs.Tags.{chosen_ok, chosen_err}
 use Rattle.wv_frames.proofs.FrameParts.{TableText, TableFill, table_read}
-use Rattle.wv_frames.proofs.TableReads.{some_table, least_table, was_read, read_again}
+use Rattle.wv_frames.proofs.TableReads.{some_table, was_read, read_again}
 use Rattle.wv_code.specs.declared.raw_body.RawAttribute.{RawAttribute}
 use Rattle.wv_code.specs.declared.raw_body.RawAttribute.TheVariants as attributes
-use Rattle.wv_code.specs.Content.{length_bytes, named_bytes, attribute_bytes, NamesFrames, IsKept, IsAttribute}
-use Rattle.wv_code.specs.Number.{number_at}
-use Rattle.wv_code.specs.Reading.{is_frames, names_frames, least_content, length_fits, name_fits, attributes_fit, kept_at, frames_found, frames_at, attribute_at, times}
-use Rattle.wv_code.proofs.Numbers.{AreBytes, are_bytes, are_take, NumberRoom}
-use Rattle.wv_code.proofs.Rooms.{Fit, fit_is, is_fit, Long, long_is, is_long, NameRoom, named_is, is_named, some_length, length_room, least_few, some_name, name_fit}
-use Rattle.wv_code.proofs.ContentParts.{Long as LengthText, shorts, longs, Span, Items, items_read}
+use Rattle.wv_code.specs.Reading.{kept_at, frames_found, frames_at}
+use Rattle.wv_code.proofs.Numbers.{AreBytes, are_bytes, are_take}
+use Rattle.wv_code.proofs.ContentParts.{Span}
 
 -- ---- bytes that are kept
 

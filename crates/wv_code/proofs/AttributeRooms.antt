@@ -1,11 +1,11 @@
 -- Which lengths of a content fit.
-use Rattle.std.proofs.Common.{◌≡◌, ℕ, zero, suc, ◌+◌, ◌-◌, ◌*◌, ◌^◌, ◌<◌, ◌≤◌, Bool, true, false, List, [], ◌∷◌, length, Option, Some, None, slice_get, if◌then◌else◌, max, min, refl, sym, ap, subst, ◌∙◌, ◌⊎◌, inl, inr, arith}
+use Rattle.std.proofs.Common.{◌≡◌, ℕ, zero, suc, ◌+◌, ◌-◌, ◌*◌, ◌^◌, ◌<◌, ◌≤◌, true, List, [], ◌∷◌, length, Option, None, slice_get, if◌then◌else◌, max, min, refl, ap, inl, inr, arith}
 use Rattle.std.proofs.lemmas.Bool.{cases_lt}
 use Rattle.wv_base.specs.declared.class_file.PoolEntry.{PoolEntry}
-use Rattle.wv_pool.specs.References.{entry_of, text_in, text_of}
+use Rattle.wv_pool.specs.References.{text_in}
 use Rattle.wv_code.specs.Reading.{length_fits, is_frames, names_frames, least_content}
 use Rattle.wv_room.specs.Number.{AllowsSome}
-use Rattle.wv_code.proofs.Rooms.{Fit, Long, long_is, is_long}
+use Rattle.wv_code.proofs.Rooms.{long_is, is_long}
 
 pub no_lengths : (least left room low high : ℕ) → room < 6 * left → AllowsSome (λ n. length_fits least left room n ≡ true) low high → ⊥
 no_lengths least left room low high few a = let l = long_is least left room a.value a.allowed in omega (arith, l.sum, l.fits.least)

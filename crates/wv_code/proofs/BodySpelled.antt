@@ -1,6 +1,5 @@
 -- The bytes of a written body are a content in which each item meets what it must, and mean the body.
-use Rattle.std.proofs.Common.{◌≡◌, ℕ, zero, suc, ◌+◌, ◌^◌, ◌<◌, ◌≤◌, List, [], ◌∷◌, ◌++◌, length, get_or, Some, refl, sym, ap, subst, ◌∙◌, append_assoc, arith}
-use Rattle.std.specs.Prelude.{slice_get}
+use Rattle.std.proofs.Common.{◌≡◌, ℕ, ◌+◌, ◌^◌, ◌<◌, ◌≤◌, List, ◌++◌, length, get_or, refl, sym, ap, subst, ◌∙◌, append_assoc, arith}
 use Rattle.std.specs.List.{flat_map, AllByRecursion}
 use Rattle.std.proofs.lemmas.List.{length-append}
 use Rattle.std.proofs.lemmas.List.Concat.{flat_map-append}
@@ -9,23 +8,20 @@ use Rattle.wv_base.specs.declared.class_file.PoolEntry.{PoolEntry}
 use Rattle.wv_base.specs.declared.class_file.Attribute.{Attribute}
 use Rattle.wv_base.specs.declared.class_file.Body.{Body}
 use Rattle.wv_base.specs.declared.frame.Frame.{Frame}
-use Rattle.wv_base.specs.declared.frame.FrameAt.{FrameAt}
 use Rattle.wv_base.specs.declared.insn.Insn.{Insn}
 use Rattle.wv_insn.specs.declared.raw.Raw.{Raw}
 use Rattle.wv_pool.specs.Adding.{Keeps}
 use Rattle.wv_pool.specs.Entries.{number_bytes}
-use Rattle.wv_frames.specs.Whole.{frames_from}
 use Rattle.wv_code.specs.declared.raw_body.RawRange.{RawRange}
 use Rattle.wv_code.specs.declared.raw_body.RawAttribute.{RawAttribute}
-use Rattle.wv_code.specs.declared.raw_body.RawAttribute.TheVariants as attributes
 use Rattle.wv_code.specs.declared.raw_body.RawBody.{RawBody}
 use Rattle.wv_code.specs.Laying.{Stand}
 use Rattle.wv_code.specs.Code.{Follow}
 use Rattle.wv_code.specs.Writing.{WritesCode}
 use Rattle.wv_code.specs.Content.{length_bytes, range_bytes, attribute_bytes, IsRange, IsAttribute, content_bytes, IsContent}
-use Rattle.wv_code.specs.Breaks.{IsNew, Breaks, len as len_breaks, insn as insn_breaks, range as range_breaks, twice, frame as frame_breaks, IsSound}
-use Rattle.wv_code.specs.Body.{IsAt, AreRangesOf, frames_in, IsBodyOf, Spells}
-use Rattle.wv_code.specs.FormedBody.{Makes, IsFormedRange, IsFormedBody}
+use Rattle.wv_code.specs.Breaks.{Breaks, len as len_breaks, insn as insn_breaks, range as range_breaks, twice, frame as frame_breaks}
+use Rattle.wv_code.specs.Body.{AreRangesOf, IsBodyOf}
+use Rattle.wv_code.specs.FormedBody.{IsFormedBody}
 use Rattle.wv_code.specs.WritingBody.{HasBytes, written_bytes, written_body, WritesTables, WritesBody}
 use Rattle.wv_code.proofs.Stands.{as_many}
 use Rattle.wv_code.proofs.OffsetFrames.{all_append, before_end}

@@ -1,13 +1,11 @@
 -- A written body is the content of a Code attribute that means it.
-use Rattle.std.proofs.Common.{◌≡◌, ℕ, zero, suc, ◌+◌, ◌^◌, ◌<◌, ◌≤◌, Bool, true, false, List, [], ◌∷◌, ◌++◌, length, take, Option, Some, refl, sym, ap, subst, ◌∙◌, append_assoc, arith, inl, inr}
-use Rattle.std.specs.Prelude.{codes, slice_get, nat_le, if◌then◌else◌}
+use Rattle.std.proofs.Common.{◌≡◌, ℕ, zero, suc, ◌+◌, ◌^◌, ◌<◌, ◌≤◌, Bool, true, false, List, [], ◌∷◌, ◌++◌, length, Option, Some, refl, sym, ap, subst, ◌∙◌, append_assoc, arith}
+use Rattle.std.specs.Prelude.{slice_get, nat_le, if◌then◌else◌}
 use Rattle.std.specs.List.{flat_map, AllByRecursion}
 use Rattle.std.proofs.lemmas.List.{append-nil, length-append}
-use Rattle.std.proofs.lemmas.List.Concat.{flat_map-append}
 use Rattle.std.proofs.lemmas.Bool.Decides.{nat_tests}
 use Rattle.wv_base.specs.declared.class_file.PoolEntry.{PoolEntry}
 use Rattle.wv_base.specs.declared.class_file.Attribute.{Attribute}
-use Rattle.wv_base.specs.declared.class_file.ExceptionRange.{ExceptionRange}
 use Rattle.wv_base.specs.declared.class_file.Body.{Body}
 use Rattle.wv_base.specs.declared.constant.Const.{Const}
 use Rattle.wv_base.specs.declared.frame.VType.{VType}
@@ -21,32 +19,26 @@ use Rattle.wv_insn.specs.declared.raw.Raw.TheVariants as raws
 use Rattle.wv_pool.specs.Adding.{Keeps}
 use Rattle.wv_pool.specs.Allowed.{IsAllowed}
 use Rattle.wv_pool.specs.Constants.{constant_of}
-use Rattle.wv_pool.specs.Entries.{number_bytes}
 use Rattle.wv_pool.specs.Numbers.{Named}
 use Rattle.wv_pool.specs.References.{entry_of, text_in, text_of, IsSound, IsPool}
-use Rattle.wv_pool.proofs.Behind.{some_is}
 use Rattle.wv_frames.specs.declared.raw.RawFrame.{RawFrame}
-use Rattle.wv_frames.specs.Spelling.{table_bytes}
 use Rattle.wv_frames.specs.Whole.{frames_from}
-use Rattle.wv_code.specs.declared.raw_body.RawRange.{RawRange}
 use Rattle.wv_code.specs.declared.raw_body.RawAttribute.{RawAttribute}
 use Rattle.wv_code.specs.declared.raw_body.RawAttribute.TheVariants as attributes
-use Rattle.wv_code.specs.declared.raw_body.RawBody.{RawBody}
 use Rattle.wv_code.specs.Constants.{constants_in}
 use Rattle.wv_code.specs.Entering.{short_constant, short_constants, Enters, none, next, MeetsFull}
-use Rattle.wv_code.specs.Laying.{IsWidened, Stand}
+use Rattle.wv_code.specs.Laying.{IsWidened}
 use Rattle.wv_code.specs.Meaning.{NamesConstant, Means}
-use Rattle.wv_code.specs.Code.{Follow, AllMean, AreWidened}
+use Rattle.wv_code.specs.Code.{AllMean, AreWidened}
 use Rattle.wv_code.specs.Writing.{WritesCode}
-use Rattle.wv_code.specs.Content.{length_bytes, range_bytes, named_bytes, attribute_bytes, NamesFrames, IsRange, IsKept, IsAttribute, content_bytes, IsContent}
-use Rattle.wv_code.specs.Body.{AreRangesOf, AreFramesOf, table_in, frames_in, kept_name, kept_in, IsBodyOf, Spells}
+use Rattle.wv_code.specs.Content.{named_bytes, attribute_bytes, NamesFrames, IsKept, IsAttribute}
+use Rattle.wv_code.specs.Body.{AreFramesOf, frames_in, kept_name, kept_in}
 use Rattle.wv_code.specs.FormedBody.{IsCaught, IsFormedRange, IsFormedType, AreFormedFrom, IsFormedKept, table_count, IsFormedBody}
 use Rattle.wv_code.specs.BodyConstants.{caught_class, range_constants, type_constants, frame_constants, table_names, table_constants, other_constants}
-use Rattle.wv_code.specs.WritingBody.{HasRoom, HasBytes, written_bytes, written_body, WritesFrames, WritesTables, WritesBody}
+use Rattle.wv_code.specs.WritingBody.{HasRoom, HasBytes, written_bytes, WritesTables}
 use Rattle.wv_code.proofs.Lists.{AllByRecursion-map}
 use Rattle.wv_code.proofs.Written.{all_front, all_back, long_kept}
 use Rattle.wv_code.proofs.OffsetFrames.{all_append}
-use Rattle.wv_code.proofs.RawRanges.{as_many_ranges}
 
 -- ---- code stays what it is where constants are added
 

@@ -1,9 +1,9 @@
 -- Reading instruction after instruction, as a loop does.
-use Rattle.std.proofs.Common.{◌≡◌, ℕ, zero, suc, ◌+◌, ◌-◌, ◌<◌, ◌≤◌, List, [], ◌∷◌, ◌++◌, length, take, drop, Result, Ok, Err, refl, sym, ap, subst, ◌∙◌, arith, append_assoc}
-use Rattle.std.proofs.lemmas.List.{length-append, length-take, length-drop, take-append-drop, take_at, drop_at}
+use Rattle.std.proofs.Common.{◌≡◌, ℕ, suc, ◌+◌, ◌-◌, ◌<◌, ◌≤◌, List, [], ◌∷◌, ◌++◌, length, take, drop, Ok, Err, refl, sym, ap, subst, ◌∙◌, arith, append_assoc}
+use Rattle.std.proofs.lemmas.List.{length-append, length-take, length-drop, take-append-drop, take_at}
 use Rattle.wv_insn.specs.declared.raw.Raw.{Raw}
 use Rattle.wv_insn.specs.Spelling.{Spells}
-use Rattle.wv_frames.proofs.Readers.{IsBytes, IsBytes-behind, Taken}
+use Rattle.wv_frames.proofs.Readers.{IsBytes, IsBytes-behind}
 use Rattle.wv_code.specs.declared.stop.Stop.{Stop}
 use Rattle.wv_code.specs.declared.stop.Stop.TheVariants as stop
 use Rattle.wv_code.specs.Answers.{Fails}

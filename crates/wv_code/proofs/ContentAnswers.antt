@@ -1,21 +1,19 @@
 -- What the reading of a Code attribute's content answers: what is spelled so, and where no content goes on.
-use Rattle.std.proofs.Common.{◌≡◌, ℕ, zero, suc, ◌+◌, ◌-◌, ◌*◌, ◌^◌, ◌<◌, ◌≤◌, Bool, true, false, List, [], ◌∷◌, ◌++◌, length, take, drop, Option, Some, None, Result, Ok, Err, refl, sym, ap, subst, ◌∙◌, ◌⊎◌, inl, inr, arith, append_assoc, add-one}
-use Rattle.std.specs.List.{flat_map, AllByRecursion}
+use Rattle.std.proofs.Common.{◌≡◌, ℕ, zero, suc, ◌+◌, ◌-◌, ◌^◌, ◌<◌, ◌≤◌, List, [], ◌∷◌, ◌++◌, length, take, drop, Result, Ok, Err, refl, sym, ap, subst, ◌∙◌, inl, inr, arith, append_assoc}
+use Rattle.std.specs.List.{flat_map}
 use Rattle.std.proofs.lemmas.List.{length-append, append-nil, take-append-drop, length-take, length-drop, take_at, drop_at, take_all, nil_from_length}
 use Rattle.wv_base.specs.declared.class_file.PoolEntry.{PoolEntry}
 use Rattle.wv_insn.specs.declared.raw.Raw.{Raw}
 use Rattle.wv_insn.specs.Spelling.{Spells}
 use Rattle.wv_insn.specs.Standing.{Stands}
 use Rattle.wv_pool.specs.Entries.{number_bytes}
-use Rattle.wv_frames.proofs.Readers.{IsBytes, Fill, Begun, Broken, Ended, Stopped, Taken, Reads, Then, Seen, ok_is}
-use Rattle.wv_frames.proofs.Tags.{Short, Room2}
+use Rattle.wv_frames.proofs.Readers.{IsBytes, Begun, Broken, Ended, ok_is}
 use Rattle.wv_code.specs.declared.raw_body.RawRange.{RawRange}
 use Rattle.wv_code.specs.declared.raw_body.RawAttribute.{RawAttribute}
 use Rattle.wv_code.specs.declared.raw_body.RawBody.{RawBody}
 use Rattle.wv_code.specs.Code.{Follow}
-use Rattle.wv_code.specs.Content.{length_bytes, range_bytes, attribute_bytes, IsRange, IsAttribute, content_bytes, IsContent, Begins, IsLayoutFault}
-use Rattle.wv_code.specs.Reading.{code_fits, content_at}
-use Rattle.wv_code.proofs.Numbers.{NumberRoom}
+use Rattle.wv_code.specs.Content.{length_bytes, range_bytes, attribute_bytes, IsContent, Begins, IsLayoutFault}
+use Rattle.wv_code.specs.Reading.{content_at}
 use Rattle.wv_code.proofs.Rooms.{Fit, some_code, code_least}
 use Rattle.wv_code.proofs.Insns.{Code, Lines}
 use Rattle.wv_code.proofs.ContentReads.{ContentText, ContentRoom, content_text_read}

@@ -1,13 +1,9 @@
 -- The parts of a Code attribute's content: how each is read, and what fits.
-use Rattle.std.proofs.Common.{◌≡◌, ℕ, zero, suc, ◌+◌, ◌-◌, ◌*◌, ◌^◌, ◌<◌, ◌≤◌, Bool, true, false, cond, ltb, List, [], ◌∷◌, ◌++◌, length, take, drop, get_or, replicate, Option, Some, None, Result, Ok, Err, codes, refl, sym, ap, subst, ◌∙◌, ◌⊎◌, inl, inr, arith, append_assoc}
+use Rattle.std.proofs.Common.{◌≡◌, ℕ, zero, suc, ◌+◌, ◌-◌, ◌*◌, ◌^◌, ◌<◌, Bool, List, [], ◌∷◌, ◌++◌, length, replicate, Result, Ok, Err, refl, sym, ap, subst, ◌∙◌, inl, inr, arith}
 use Rattle.std.specs.List.{flat_map, AllByRecursion}
-use Rattle.std.specs.Int.{w16, w32, to_be_bytes, from_be_bytes}
-use Rattle.std.proofs.lemmas.Bool.{cases_Bool, ltb-true, ltb-false, le-ltb}
-use Rattle.std.proofs.lemmas.List.{length-append, append-nil, take-append-drop, length-take, length-drop, length-replicate}
+use Rattle.std.specs.Int.{w16, w32, from_be_bytes}
+use Rattle.std.proofs.lemmas.List.{length-append, length-replicate}
 use Rattle.std.proofs.lemmas.Nat.{be_bytes_2, be_bytes_4}
-use Rattle.wv_base.specs.declared.class_file.PoolEntry.{PoolEntry}
-use Rattle.wv_base.specs.declared.class_file.Attribute.{Attribute}
-use Rattle.wv_insn.specs.declared.raw.Raw.{Raw}
 use Rattle.wv_insn.specs.declared.raw.Raw.TheVariants as raws
 use Rattle.wv_base.specs.Opcodes.{nop}
 use Rattle.wv_insn.specs.Spelling.{padding, Spells}
@@ -15,15 +11,15 @@ use Rattle.wv_insn.proofs.Operands.{nop_is}
 use Rattle.wv_room.specs.Number.{number_of}
 use Rattle.wv_pool.specs.Reading.{◌>>=◌, fixed, number}
 use Rattle.wv_pool.specs.Entries.{number_bytes}
-use Rattle.wv_frames.proofs.Readers.{IsBytes, IsBytes-behind, Fill, Begun, Broken, Ended, Stopped, Taken, Reads, resized, renamed, done, Then, then, Seen, seen, alike, ok_is}
+use Rattle.wv_frames.proofs.Readers.{IsBytes, Fill, Begun, Stopped, Taken, Reads, resized, renamed, done, Then, then, Seen, seen, alike}
 use Rattle.wv_frames.proofs.Tags.{Short, Room2, short}
 use Rattle.wv_code.specs.declared.raw_body.RawRange.{RawRange}
 use Rattle.wv_code.specs.Content.{length_bytes, range_bytes, IsRange}
 use Rattle.wv_code.specs.Number.{number_at}
 use Rattle.wv_code.specs.Reading.{insns_from, code_at, times, range_at}
 use Rattle.wv_code.specs.Fitting.{insn_at}
-use Rattle.wv_code.proofs.Numbers.{AreBytes, are_bytes, below, Digits, digits_of, IsNumber, NumberRoom, Passes, numbers}
-use Rattle.wv_code.proofs.Insns.{Code, Lines, TakenCode, BegunCode, insns_take, insns_again, code_there, BrokenCode, EndedCode, insns_stop}
+use Rattle.wv_code.proofs.Numbers.{AreBytes, below, digits_of, IsNumber, NumberRoom, Passes, numbers}
+use Rattle.wv_code.proofs.Insns.{Code, Lines, BegunCode, insns_take, insns_again, code_there, insns_stop}
 use Rattle.wv_code.proofs.InsnReads.{insn_reads}
 
 -- ---- numbers of two and of four bytes

@@ -1,5 +1,5 @@
 -- The places of a Code attribute's content.
-use Rattle.std.proofs.Common.{◌≡◌, ℕ, zero, suc, ◌+◌, ◌*◌, ◌<◌, ◌≤◌, ◌↔◌, Bool, true, false, List, [], ◌∷◌, ◌++◌, length, get_or, take, Option, Some, None, refl, sym, ap, subst, ◌∙◌, arith, inl, inr, ◌⊎◌}
+use Rattle.std.proofs.Common.{◌≡◌, ℕ, ◌+◌, ◌*◌, ◌<◌, ◌≤◌, ◌↔◌, Bool, true, false, List, [], ◌∷◌, length, get_or, take, Option, Some, None, refl, sym, ap, subst, ◌∙◌, arith, inl, inr, ◌⊎◌}
 use Rattle.std.specs.Prelude.{slice_get, IsTrue, IfSome, IfNone, not}
 use Rattle.std.specs.List.{flat_map, AllByRecursion}
 use Rattle.std.proofs.lemmas.Bool.{cases_lt}
@@ -19,11 +19,11 @@ use Rattle.wv_code.specs.declared.raw_body.RawAttribute.TheVariants as attribute
 use Rattle.wv_code.specs.declared.raw_body.RawBody.{RawBody}
 use Rattle.wv_code.specs.Code.{Follow}
 use Rattle.wv_code.specs.Content.{range_bytes, attribute_bytes, IsContent}
-use Rattle.wv_code.specs.Breaks.{FramesBreak, InsnBreaks, RangeBreaks, Breaks, len, insn, range, twice, frame, behind_code, attribute_place, FirstBreak, IsSound}
+use Rattle.wv_code.specs.Breaks.{FramesBreak, InsnBreaks, Breaks, len, insn, range, twice, frame, attribute_place, FirstBreak, IsSound}
 use Rattle.wv_code.specs.Least.{IsLeastOf, lesser, unless, Broken, Behind, InItems}
-use Rattle.wv_code.specs.Checking.{AreStarts, InsnAtBreaks, RangeAtBreaks, IsTable, HasTable, ContentBreaks, AttributeBreaks, AttributeAtBreaks}
+use Rattle.wv_code.specs.Checking.{AreStarts, InsnAtBreaks, RangeAtBreaks, IsTable, HasTable, AttributeBreaks, AttributeAtBreaks}
 use Rattle.wv_code.proofs.Starts.{follow_many, follow_below, follow_ascends}
-use Rattle.wv_code.proofs.LeastPlaces.{none_of, same, either, broken_at, taken_front, taken_within}
+use Rattle.wv_code.proofs.LeastPlaces.{none_of, same, either, taken_front, taken_within}
 
 -- ---- the instructions of a content
 

@@ -1,35 +1,25 @@
 -- The content of a Code attribute: how it is read, and what fits.
-use Rattle.std.proofs.Common.{◌≡◌, ℕ, zero, suc, ◌+◌, ◌-◌, ◌*◌, ◌^◌, ◌<◌, ◌≤◌, Bool, true, false, cond, List, [], ◌∷◌, ◌++◌, length, take, drop, Option, Some, None, Result, Ok, Err, codes, refl, sym, ap, subst, ◌∙◌, ◌⊎◌, inl, inr, arith, append_assoc}
-use Rattle.std.specs.List.{flat_map, AllByRecursion}
-use Rattle.std.specs.Prelude.{bytes_eq}
+use Rattle.std.proofs.Common.{◌≡◌, ℕ, suc, ◌^◌, ◌<◌, ◌≤◌, Bool, true, false, cond, List, ◌++◌, length, Option, Some, None, Result, Ok, codes, refl, sym, ap, subst, ◌∙◌, inl, inr, arith}
 use Rattle.std.proofs.lemmas.Bool.{cases_Bool}
-use Rattle.std.proofs.lemmas.List.{length-append, append-nil, take-append-drop, length-take, length-drop, take_at, drop_at}
 use Rattle.std.proofs.lemmas.Slice.Eq.{bytes_eq-Decides}
 use Rattle.wv_base.specs.declared.class_file.PoolEntry.{PoolEntry}
-use Rattle.wv_base.specs.declared.class_file.Attribute.{Attribute}
-use Rattle.wv_insn.specs.declared.raw.Raw.{Raw}
-use Rattle.wv_insn.specs.Spelling.{Spells}
-use Rattle.wv_insn.specs.Standing.{Stands}
 use Rattle.wv_pool.specs.Reading.{◌>>=◌, fixed, number}
 use Rattle.wv_pool.specs.Entries.{number_bytes}
 use Rattle.wv_pool.specs.References.{text_of}
-use Rattle.wv_frames.specs.declared.raw.RawFrame.{RawFrame}
-use Rattle.wv_frames.specs.Spelling.{table_bytes, IsLayout}
-use Rattle.wv_frames.proofs.Readers.{IsBytes, Fill, Begun, Broken, Ended, Stopped, Taken, Reads, resized, renamed, done, Then, then, Seen, seen, alike, ok_is}
+use Rattle.wv_frames.specs.Spelling.{table_bytes}
+use Rattle.wv_frames.proofs.Readers.{Reads, resized, renamed, Then, then, Seen, seen, alike}
 use Rattle.wv_frames.proofs.Tags.{Short, Room2, short}
 use Rattle.wv_frames.proofs.TableReads.{least_table}
-use Rattle.wv_code.specs.declared.splitting.RawCode.{RawCode}
 use Rattle.wv_code.specs.declared.raw_body.RawRange.{RawRange}
 use Rattle.wv_code.specs.declared.raw_body.RawAttribute.{RawAttribute}
 use Rattle.wv_code.specs.declared.raw_body.RawAttribute.TheVariants as attributes
 use Rattle.wv_code.specs.declared.raw_body.RawBody.{RawBody}
-use Rattle.wv_code.specs.Code.{Follow}
-use Rattle.wv_code.specs.Content.{length_bytes, named_bytes, range_bytes, attribute_bytes, NamesFrames, IsRange, IsKept, IsAttribute, content_bytes, IsContent}
+use Rattle.wv_code.specs.Content.{length_bytes, named_bytes, range_bytes, attribute_bytes, NamesFrames, IsRange, IsAttribute}
 use Rattle.wv_code.specs.Number.{number_at}
 use Rattle.wv_code.specs.Reading.{is_frames, names_frames, least_content, length_fits, name_fits, attributes_fit, ranges_fit, code_fits, kept_at, frames_at, attribute_at, code_at, range_at, times, tables_at, content_at}
-use Rattle.wv_code.proofs.Numbers.{AreBytes, NumberRoom, Passes}
-use Rattle.wv_code.proofs.Rooms.{Fit, fit_is, is_fit, Long, long_is, is_long, NameRoom, named_is, is_named, some_length, length_room, least_few, some_name, name_fit, Table, table_is, table_counts, counts_table, Ranged, ranged_is, is_ranged, Tables, tables_ranged, ranged_tables, Coded, coded_is, is_coded}
-use Rattle.wv_code.proofs.Insns.{Code, Lines}
+use Rattle.wv_code.proofs.Numbers.{NumberRoom, Passes}
+use Rattle.wv_code.proofs.Rooms.{Fit, fit_is, is_fit, long_is, is_long, named_is, is_named, some_length, length_room, least_few, some_name, name_fit, Table, table_counts, counts_table, ranged_is, is_ranged, Tables, tables_ranged, ranged_tables, coded_is, is_coded}
+use Rattle.wv_code.proofs.Insns.{Code}
 use Rattle.wv_code.proofs.ContentParts.{Long as LengthText, shorts, longs, Span, CodeText, code_read, Items, Item, items_read, RangesRoom, ranges_read}
 use Rattle.wv_code.proofs.AttributeReads.{KeptText, kept_read, FramesText, frames_table}
 

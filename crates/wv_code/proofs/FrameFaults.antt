@@ -1,7 +1,7 @@
 -- What the reading of a StackMapTable answers, from the place of its fault.
-use Rattle.std.proofs.Common.{◌≡◌, ℕ, zero, suc, ◌+◌, ◌-◌, ◌^◌, ◌<◌, ◌≤◌, List, [], ◌∷◌, ◌++◌, length, take, drop, Result, Ok, Err, min, refl, sym, ap, subst, ◌∙◌, ◌⊎◌, inl, inr, arith, append_assoc, add-one}
+use Rattle.std.proofs.Common.{◌≡◌, ℕ, ◌+◌, ◌-◌, ◌^◌, ◌<◌, ◌≤◌, List, [], ◌++◌, length, take, drop, Result, Ok, Err, min, refl, sym, ap, subst, ◌∙◌, inl, inr, arith, append_assoc}
 use Rattle.std.proofs.lemmas.Bool.{cases_lt}
-use Rattle.std.proofs.lemmas.List.{append-nil, length-append, length-take, take-append-drop, take_all, take-take}
+use Rattle.std.proofs.lemmas.List.{append-nil, length-take, take-append-drop, take_all, take-take}
 use Rattle.wv_pool.proofs.PlainEntries.{IsBytes-take}
 use Rattle.wv_frames.specs.declared.raw.RawFrame.{RawFrame}
 use Rattle.wv_frames.specs.Spelling.{table_bytes, IsLayout}
@@ -9,7 +9,6 @@ use Rattle.wv_frames.specs.Layout.{BeginsTable, IsLayoutFault}
 use Rattle.wv_frames.specs.Reading.{table_at}
 use Rattle.wv_frames.proofs.Readers.{IsBytes}
 use Rattle.wv_frames.proofs.TableReads.{was_read, read_again, layout_fault}
-use Rattle.wv_code.specs.declared.raw_body.RawAttribute.{RawAttribute}
 use Rattle.wv_code.specs.declared.raw_body.RawAttribute.TheVariants as attributes
 use Rattle.wv_code.specs.Reading.{frames_at}
 

@@ -1,5 +1,5 @@
 -- The places of frames and of their types.
-use Rattle.std.proofs.Common.{◌≡◌, ℕ, ◌+◌, ◌*◌, ◌<◌, ◌↔◌, List, [], ◌∷◌, ◌++◌, length, get_or, take, Option, Some, None, refl, sym, ap, subst, ◌∙◌, arith, inl, inr, ◌⊎◌}
+use Rattle.std.proofs.Common.{◌≡◌, ℕ, ◌+◌, ◌<◌, ◌↔◌, List, [], ◌∷◌, ◌++◌, length, get_or, take, Option, Some, None, refl, sym, ap, subst, ◌∙◌, arith, inl, inr, ◌⊎◌}
 use Rattle.std.specs.Prelude.{slice_get}
 use Rattle.std.specs.List.{flat_map}
 use Rattle.std.proofs.lemmas.List.{take_more}
@@ -16,10 +16,10 @@ use Rattle.wv_frames.specs.Spelling.{type_bytes}
 use Rattle.wv_frames.specs.Whole.{delta_of}
 use Rattle.wv_code.specs.declared.splitting.RawCode.{RawCode}
 use Rattle.wv_code.specs.Breaks.{Starts, IsNew, HasType, with_one, extended, append, in_locals, on_stack, next_offset}
-use Rattle.wv_code.specs.Least.{IsLeastOf, lesser, Broken, Behind, InItems}
+use Rattle.wv_code.specs.Least.{IsLeastOf, Broken, Behind, InItems}
 use Rattle.wv_code.specs.Checking.{AreStarts, MadeBreaks, TypeAtBreaks, TypesBreak}
 use Rattle.wv_code.proofs.Starts.{one_index}
-use Rattle.wv_code.proofs.LeastPlaces.{none_of, same, either}
+use Rattle.wv_code.proofs.LeastPlaces.{none_of, same}
 
 -- ---- a `new` at an offset
 

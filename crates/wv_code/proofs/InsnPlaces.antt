@@ -1,5 +1,5 @@
 -- The places of an instruction's operands, kind by kind.
-use Rattle.std.proofs.Common.{◌≡◌, ℕ, zero, suc, ◌+◌, ◌*◌, ◌^◌, ◌<◌, ◌≤◌, ◌↔◌, ℤ, Bool, true, false, List, length, get_or, Option, Some, None, refl, sym, ap, subst, ◌∙◌, add-one, arith, inl, inr, ◌⊎◌}
+use Rattle.std.proofs.Common.{◌≡◌, ℕ, zero, suc, ◌+◌, ◌*◌, ◌^◌, ◌<◌, ◌≤◌, ◌↔◌, ℤ, Bool, true, false, List, length, get_or, Option, Some, None, refl, sym, ap, subst, ◌∙◌, arith, inl, inr, ◌⊎◌}
 use Rattle.std.specs.Prelude.{slice_get, IsTrue, ◌==◌, ◌<ℤ◌, ◌≤ℤ◌, ◌-ℤ◌, int_le, unsigned_abs, FitsSigned, if◌then◌else◌}
 use Rattle.std.specs.Int.{w32}
 use Rattle.std.proofs.lemmas.Bool.{eqb-true, eq-eqb}
@@ -7,14 +7,12 @@ use Rattle.std.specs.Int.Signed.{clash_ℤ}
 use Rattle.std.proofs.lemmas.Int.{by_lt_z, ints}
 use Rattle.std.proofs.lemmas.Option.{none-some, slice_get-get_or, slice_get_within}
 use Rattle.wv_base.specs.declared.class_file.PoolEntry.{PoolEntry}
-use Rattle.wv_base.specs.Descriptor.{HasWords}
 use Rattle.wv_insn.specs.declared.raw.Raw.{Raw}
 use Rattle.wv_insn.specs.declared.raw.Raw.TheVariants as raws
 use Rattle.wv_insn.specs.declared.raw.RawCase.{RawCase}
 use Rattle.wv_insn.specs.Spelling.{padding, targets}
 use Rattle.wv_pool.specs.Constants.{class_name}
 use Rattle.wv_pool.proofs.Behind.{some_is}
-use Rattle.wv_code.specs.Formed.{dimensions_of}
 use Rattle.wv_code.specs.Breaks.{Lands, Loads, Takes, TakesInterface, TakesSite, NamesClass, InsnBreaks, load, branch, table_other, table_low, table_target, lookup_other, lookup_key, lookup_target, reference, interface, count, zero as zero_byte, site, class, array, multi, dimensions}
 use Rattle.wv_code.specs.Least.{IsLeastOf, lesser, Broken, Behind, InItems}
 use Rattle.wv_code.specs.Operands.{IsCountOf, HasDimensions}

@@ -1,15 +1,15 @@
 -- Instructions one behind the other that end where the tail begins: what reading them keeps.
-use Rattle.std.proofs.Common.{◌≡◌, ℕ, zero, suc, ◌+◌, ◌-◌, ◌<◌, ◌≤◌, Bool, true, false, List, [], ◌∷◌, ◌++◌, length, replicate, Result, Ok, Err, refl, sym, ap, subst, ◌∙◌, ◌⊎◌, inl, inr, arith, append_assoc}
+use Rattle.std.proofs.Common.{◌≡◌, ℕ, zero, suc, ◌+◌, ◌-◌, ◌<◌, ◌≤◌, List, [], ◌∷◌, ◌++◌, length, Result, Ok, Err, refl, sym, ap, subst, ◌∙◌, ◌⊎◌, inl, inr, arith, append_assoc}
 use Rattle.std.proofs.lemmas.Bool.Decides.{eqb_tells}
 use Rattle.std.proofs.lemmas.Bool.{eq-eqb}
-use Rattle.std.proofs.lemmas.List.{length-append, append-nil}
+use Rattle.std.proofs.lemmas.List.{length-append}
 use Rattle.wv_base.specs.Opcodes.{nop}
 use Rattle.wv_insn.specs.declared.raw.Raw.{Raw}
 use Rattle.wv_insn.specs.declared.raw.Raw.TheVariants as raws
 use Rattle.wv_insn.specs.Spelling.{Spells}
 use Rattle.wv_pool.specs.Reading.{◌>>=◌}
 use Rattle.wv_code.specs.Reading.{insns_from}
-use Rattle.wv_frames.proofs.Readers.{IsBytes, IsBytes-behind, Fill, Begun, Broken, Ended, Stopped, Taken, Reads, ok_is, bind_ok, bind_err}
+use Rattle.wv_frames.proofs.Readers.{IsBytes, IsBytes-behind, Begun, Broken, Stopped, Reads, ok_is, bind_ok, bind_err}
 
 abbrev pub Code : Type 0
 Code = List Raw × List ℕ

@@ -1,12 +1,12 @@
 -- Numbers of which not every value fits: what reading them keeps.
-use Rattle.std.proofs.Common.{◌≡◌, ℕ, zero, suc, ◌+◌, ◌-◌, ◌*◌, ◌/◌, ◌%◌, ◌^◌, ◌<◌, ◌≤◌, Bool, true, false, List, [], ◌∷◌, ◌++◌, length, get_or, take, drop, Result, Ok, Err, refl, sym, ap, subst, ◌∙◌, ◌⊎◌, inl, inr, arith, append_assoc, add-one}
+use Rattle.std.proofs.Common.{◌≡◌, ℕ, zero, suc, ◌+◌, ◌-◌, ◌*◌, ◌/◌, ◌%◌, ◌^◌, ◌<◌, ◌≤◌, Bool, true, List, [], ◌∷◌, ◌++◌, length, take, drop, Result, Ok, Err, refl, sym, ap, subst, ◌∙◌, ◌⊎◌, inl, inr, arith, add-one}
 use Rattle.std.specs.List.{AllByRecursion}
 use Rattle.std.proofs.lemmas.Bool.{cases_Bool, cases_lt, both_ways}
 use Rattle.std.proofs.lemmas.List.{length-append, length-take, take-append-drop, append-nil}
 use Rattle.std.proofs.Math.Nat.{pow-suc, pow-succ', div-add-mod, mul-le-mul_left, div-lt_iff_lt-mul}
 use Rattle.wv_room.specs.Number.{number_of, BeginsWith, IsFirstFault}
 use Rattle.wv_code.specs.Number.{some_below, number_from, number_at}
-use Rattle.wv_frames.proofs.Readers.{IsBytes, IsBytes-rest, Fill, Begun, Broken, Ended, Stopped, Taken, Reads, ok_is}
+use Rattle.wv_frames.proofs.Readers.{IsBytes, IsBytes-rest, Fill, Begun, Stopped, Taken, Reads, ok_is}
 
 abbrev pub AreBytes : List ℕ → Type 0
 AreBytes bytes = AllByRecursion (λ b. b < 256) bytes

@@ -17,7 +17,6 @@ use Rattle.wv_base.specs.declared.frame.FrameAt.{FrameAt}
 use Rattle.wv_base.specs.declared.insn.Insn.{Insn}
 use Rattle.wv_base.specs.declared.insn.Insn.TheVariants as insn
 use Rattle.wv_base.specs.Opcodes.{bipush, ldc, invokeinterface, goto_w}
-use Rattle.wv_insn.specs.Spelling.{padding}
 use Rattle.wv_pool.specs.References.{entry_of, text_in, text_of, class_of}
 use Rattle.wv_pool.specs.Constants.{constant_in, constant_of}
 use Rattle.wv_pool.specs.Numbers.{Named}

@@ -1,9 +1,9 @@
 -- What fits behind the numbers of a Code attribute.
-use Rattle.std.proofs.Common.{◌≡◌, ℕ, zero, suc, ◌+◌, ◌-◌, ◌*◌, ◌/◌, ◌^◌, ◌<◌, ◌≤◌, Bool, true, false, ◌==◌, ◌&&◌, ◌||◌, nat_le, if◌then◌else◌, List, [], length, refl, sym, ap, subst, ◌∙◌, ◌⊎◌, inl, inr, arith}
-use Rattle.std.proofs.lemmas.Bool.{leb-true, le-leb, and_parts, cases_lt, cases_Bool, eqb-true, eq-eqb}
+use Rattle.std.proofs.Common.{◌≡◌, ℕ, suc, ◌+◌, ◌-◌, ◌*◌, ◌/◌, ◌^◌, ◌<◌, ◌≤◌, Bool, true, false, ◌==◌, ◌&&◌, ◌||◌, nat_le, if◌then◌else◌, List, refl, sym, ap, subst, ◌∙◌, ◌⊎◌, inl, inr, arith}
+use Rattle.std.proofs.lemmas.Bool.{leb-true, le-leb, and_parts, cases_lt, eqb-true, eq-eqb}
 use Rattle.wv_base.specs.declared.class_file.PoolEntry.{PoolEntry}
 use Rattle.wv_code.specs.Reading.{longest, attributes_fit, attributes_fill, tables_fill, code_fits, ranges_fit, names_frames, least_content, length_fits, name_fits}
-use Rattle.wv_code.proofs.Numbers.{true_some, some_true, some_with, NumberRoom}
+use Rattle.wv_code.proofs.Numbers.{true_some, some_true, NumberRoom}
 
 both : {x y : Bool} → x ≡ true → y ≡ true → (x && y) ≡ true
 both {x} {y} a b = rw (a, b) refl

@@ -1,8 +1,8 @@
 -- No item of a written StackMapTable breaks what it must meet.
-use Rattle.std.proofs.Common.{◌≡◌, ℕ, zero, suc, ◌+◌, ◌<◌, List, [], ◌∷◌, ◌++◌, length, take, Option, Some, Err, refl, sym, ap, subst, ◌∙◌, arith}
+use Rattle.std.proofs.Common.{◌≡◌, ℕ, zero, suc, ◌+◌, List, [], ◌∷◌, ◌++◌, take, Some, Err, refl, sym, ap, subst, ◌∙◌}
 use Rattle.std.specs.Prelude.{slice_get}
 use Rattle.std.specs.List.{AllByRecursion}
-use Rattle.std.specs.Option.{option_map, option_and_then}
+use Rattle.std.specs.Option.{option_map}
 use Rattle.wv_base.specs.declared.class_file.PoolEntry.{PoolEntry}
 use Rattle.wv_base.specs.declared.fault.ClassFault.TheVariants as faults
 use Rattle.wv_base.specs.declared.frame.VType.{VType}
@@ -19,7 +19,7 @@ use Rattle.wv_frames.specs.Whole.{type_of, types_of, frame_of, frame_after, delt
 use Rattle.wv_frames.proofs.WholeFaults.{gives_only}
 use Rattle.wv_code.specs.declared.splitting.RawCode.{RawCode}
 use Rattle.wv_code.specs.Body.{IsAt, IsTypeOf, AreTypesOf, IsFrameOf, AreFramesOf}
-use Rattle.wv_code.specs.Breaks.{Starts, IsNew, HasType, with_one, extended, append, in_locals, on_stack, next_offset, FramesBreak, named, stands, made}
+use Rattle.wv_code.specs.Breaks.{IsNew, HasType, with_one, extended, append, in_locals, on_stack, next_offset, FramesBreak, named, stands, made}
 use Rattle.wv_code.specs.FormedBody.{Makes, IsFormedType, AreFormedFrom}
 use Rattle.wv_code.proofs.OffsetFrames.{all_get}
 use Rattle.wv_code.proofs.Written.{all_back}

@@ -1,6 +1,6 @@
 -- No item of a written instruction breaks what it must meet.
-use Rattle.std.proofs.Common.{◌≡◌, ◌↔◌, ℕ, zero, suc, ◌+◌, ◌<◌, ◌≤◌, ℤ, Bool, true, false, List, [], ◌∷◌, ◌++◌, length, Option, Some, refl, sym, ap, subst, ◌∙◌, arith, add-one, ◌⊎◌, inl, inr}
-use Rattle.std.specs.Prelude.{slice_get, pos, ◌<ℤ◌, ◌≤ℤ◌, ◌==◌, ◌&&◌, nat_le, if◌then◌else◌}
+use Rattle.std.proofs.Common.{◌≡◌, ℕ, zero, suc, ◌+◌, ◌<◌, ◌≤◌, ℤ, Bool, true, false, List, [], ◌∷◌, Option, Some, refl, sym, ap, subst, ◌∙◌, arith, add-one, inl, inr}
+use Rattle.std.specs.Prelude.{slice_get, ◌<ℤ◌, ◌≤ℤ◌, ◌==◌, ◌&&◌, nat_le, if◌then◌else◌}
 use Rattle.std.specs.List.{AllByRecursion}
 use Rattle.std.proofs.lemmas.Int.{ints}
 use Rattle.std.proofs.lemmas.Bool.{eqb-true}
@@ -23,8 +23,7 @@ use Rattle.wv_insn.specs.Spelling.{IsInstruction}
 use Rattle.wv_pool.specs.Constants.{class_name, constant_of}
 use Rattle.wv_pool.proofs.Behind.{some_is, class_is}
 use Rattle.wv_code.specs.Constants.{member_constant}
-use Rattle.wv_code.specs.Formed.{loaded_words, LoadsWords, TakesMember, KeysAscend, dimensions_of, IsShaped, IsFormed, AreFormed}
-use Rattle.wv_code.specs.Laying.{IsWidened}
+use Rattle.wv_code.specs.Formed.{loaded_words, LoadsWords, TakesMember, KeysAscend, dimensions_of, IsShaped, IsFormed}
 use Rattle.wv_code.specs.Meaning.{Leads, AllLead, AllCasesLead, Means, widened}
 use Rattle.wv_code.specs.Code.{Follow, AllMean, AreWidened}
 use Rattle.wv_code.specs.Breaks.{Lands, Loads, Takes, TakesInterface, TakesSite, NamesClass, InsnBreaks, load, branch, table_other, table_low, table_target, lookup_other, lookup_key, lookup_target, reference, interface, count, zero as zero_byte, site, class, array, multi, dimensions}

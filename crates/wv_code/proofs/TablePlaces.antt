@@ -1,6 +1,6 @@
 -- The places of a StackMapTable's content.
-use Rattle.std.proofs.Common.{◌≡◌, ℕ, zero, suc, ◌+◌, ◌*◌, ◌^◌, ◌<◌, ◌≤◌, true, false, List, [], ◌∷◌, ◌++◌, length, get_or, take, Option, Some, None, Result, Ok, Err, refl, sym, ap, subst, ◌∙◌, arith, inl, inr, ◌⊎◌}
-use Rattle.std.specs.Prelude.{slice_get, IsSome, is_some}
+use Rattle.std.proofs.Common.{◌≡◌, ℕ, ◌+◌, ◌^◌, ◌<◌, ◌≤◌, true, false, List, [], ◌∷◌, ◌++◌, length, get_or, take, Option, Some, None, Err, refl, sym, ap, subst, ◌∙◌, arith, inl, inr, ◌⊎◌}
+use Rattle.std.specs.Prelude.{IsSome, is_some}
 use Rattle.std.specs.Option.{option_map, option_and_then}
 use Rattle.std.specs.List.{flat_map}
 use Rattle.std.proofs.lemmas.List.{length-append}
@@ -20,10 +20,10 @@ use Rattle.wv_frames.specs.Whole.{type_of, types_of, delta_of, frames_from, loca
 use Rattle.wv_frames.specs.References.{TypesBreak, BreaksAt, FirstBreaks}
 use Rattle.wv_frames.proofs.WholeFaults.{gives_only}
 use Rattle.wv_code.specs.declared.splitting.RawCode.{RawCode}
-use Rattle.wv_code.specs.Breaks.{Starts, IsNew, HasType, delta_place, next_offset, FramesBreak, named, stands, made}
+use Rattle.wv_code.specs.Breaks.{delta_place, next_offset, FramesBreak, named, stands, made}
 use Rattle.wv_code.specs.Least.{IsLeastOf, lesser, Behind, InItems}
 use Rattle.wv_code.specs.Checking.{FrameBreaks, FrameAtBreaks}
-use Rattle.wv_code.proofs.LeastPlaces.{none_of, same, either}
+use Rattle.wv_code.proofs.LeastPlaces.{none_of, same}
 use Rattle.wv_code.proofs.InsnPlaces.{either_behind}
 
 -- ---- two places of one list

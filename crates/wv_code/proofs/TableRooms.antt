@@ -1,10 +1,10 @@
 -- What fits in the tables behind a method's code, by the sizes that they can have.
-use Rattle.std.proofs.Common.{◌≡◌, ◌↔◌, ℕ, zero, suc, ◌+◌, ◌-◌, ◌*◌, ◌/◌, ◌%◌, ◌^◌, ◌<◌, ◌≤◌, Bool, true, refl, sym, ap, subst, ◌∙◌, inl, inr, arith}
+use Rattle.std.proofs.Common.{◌≡◌, ◌↔◌, ℕ, ◌+◌, ◌-◌, ◌*◌, ◌^◌, ◌<◌, ◌≤◌, true, refl, inl, inr, arith}
 use Rattle.std.proofs.lemmas.Bool.{cases_lt}
 use Rattle.wv_room.specs.Tables.{TablesFill}
 use Rattle.wv_room.proofs.TableSizes.{reached, spelled}
 use Rattle.wv_code.specs.Reading.{code_fits, ranges_fit, attributes_fit}
-use Rattle.wv_code.proofs.Rooms.{Fit, fit_is, is_fit, Table, Ranged, ranged_is, is_ranged, Tables, Coded, coded_is, is_coded}
+use Rattle.wv_code.proofs.Rooms.{fit_is, is_fit, ranged_is, is_ranged, coded_is, is_coded}
 
 -- code of so many bytes, and both tables
 pub code_allows : (room n : ℕ) → room < 2 ^ 32 → TablesFill (0 + n) 0 1 1 room ↔ (code_fits room n ≡ true)

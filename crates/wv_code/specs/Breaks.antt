@@ -1,6 +1,6 @@
 -- The items of a Code attribute's content that break what they must meet (JVM Specification 4.7.3, 4.7.4 and 4.9.1), by
 -- their places in it.
-use Rattle.std.specs.Prelude.{◌≡◌, ℕ, ◌+◌, ◌*◌, ◌<◌, ◌≤◌, ◌<ℤ◌, ◌≤ℤ◌, ℤ, true, false, List, [], ◌∷◌, ◌++◌, length, take, slice_get, Some, ◌⊎◌}
+use Rattle.std.specs.Prelude.{◌≡◌, ℕ, ◌+◌, ◌*◌, ◌<◌, ◌≤◌, ◌<ℤ◌, ◌≤ℤ◌, ℤ, true, false, List, [], ◌∷◌, length, take, slice_get, Some, ◌⊎◌}
 use Rattle.std.specs.List.{flat_map}
 use Rattle.wv_base.specs.declared.class_file.PoolEntry.{PoolEntry}
 use Rattle.wv_base.specs.declared.constant.Const.{Const}
@@ -24,7 +24,6 @@ use Rattle.wv_frames.specs.Whole.{delta_of}
 use Rattle.wv_frames.specs.References.{FirstBreaks}
 use Rattle.wv_code.specs.declared.splitting.RawCode.{RawCode}
 use Rattle.wv_code.specs.declared.raw_body.RawRange.{RawRange}
-use Rattle.wv_code.specs.declared.raw_body.RawAttribute.{RawAttribute}
 use Rattle.wv_code.specs.declared.raw_body.RawAttribute.TheVariants as attributes
 use Rattle.wv_code.specs.declared.raw_body.RawBody.{RawBody}
 use Rattle.wv_code.specs.Formed.{loaded_words, LoadsWords, dimensions_of}

@@ -16,8 +16,8 @@ use Rattle.wv_code.specs.declared.splitting.RawCode.{RawCode}
 use Rattle.wv_code.specs.declared.raw_body.RawRange.{RawRange}
 use Rattle.wv_code.specs.declared.raw_body.RawAttribute.{RawAttribute}
 use Rattle.wv_code.specs.declared.raw_body.RawAttribute.TheVariants as attributes
-use Rattle.wv_code.specs.Content.{range_bytes, attribute_bytes}
-use Rattle.wv_code.specs.Breaks.{Starts, Lands, NamesClass, InsnBreaks, RangeBreaks, IsNew, HasType, delta_place, next_offset, FramesBreak}
+use Rattle.wv_code.specs.Content.{attribute_bytes}
+use Rattle.wv_code.specs.Breaks.{Starts, Lands, InsnBreaks, RangeBreaks, IsNew, HasType, delta_place, next_offset, FramesBreak}
 use Rattle.wv_code.specs.Least.{Broken, Behind}
 
 -- the instructions of code stand one behind the other, before its end

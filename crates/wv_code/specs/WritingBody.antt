@@ -1,5 +1,5 @@
 -- How a body is written.
-use Rattle.std.specs.Prelude.{◌≡◌, ℕ, ◌++◌, ◌^◌, ◌<◌, List, [], ◌∷◌, length}
+use Rattle.std.specs.Prelude.{ℕ, ◌++◌, ◌^◌, ◌<◌, List, [], ◌∷◌, length}
 use Rattle.std.specs.List.{flat_map, AllByRecursion}
 use Rattle.wv_base.specs.declared.class_file.PoolEntry.{PoolEntry}
 use Rattle.wv_base.specs.declared.class_file.Attribute.{Attribute}

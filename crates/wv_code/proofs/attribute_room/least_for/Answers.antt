@@ -1,4 +1,4 @@
-use Rattle.std.proofs.Common.{◌≡◌, ◌≤◌, ℕ, ◌+◌, ◌<◌, length, sym, inl, inr, arith}
+use Rattle.std.proofs.Common.{sym, inl, inr, arith}
 use Rattle.std.proofs.lemmas.Bool.{cases_lt}
 use Rattle.wv_code.proofs.AttributeRooms.{least_past}
 use Rattle.wv_code.proofs.attribute_room.least_for.Goals as goal

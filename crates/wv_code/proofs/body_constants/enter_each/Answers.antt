@@ -1,5 +1,4 @@
 use Rattle.std.proofs.lemmas.Result.{err_from_is_err_and}
-use Rattle.wv_pool.specs.Adding.{needs, AreTooMany}
 use Rattle.wv_code.proofs.Entered.{nothing, puts}
 use Rattle.wv_code.proofs.BodyConstants.{each_more, full_at}
 use Rattle.wv_code.proofs.body_constants.enter_each.Goals as goal

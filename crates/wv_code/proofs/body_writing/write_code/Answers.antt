@@ -7,7 +7,7 @@ use Rattle.wv_code.specs.BodyConstants.{other_constants}
 use Rattle.wv_code.proofs.Lists.{AllByRecursion-map}
 use Rattle.wv_code.proofs.Entered.{kept_on}
 use Rattle.wv_code.proofs.Written.{layout_kept}
-use Rattle.wv_code.proofs.BodyWritten.{others_allowed, code_kept, enters_then, full_first, full_then}
+use Rattle.wv_code.proofs.BodyWritten.{others_allowed, code_kept, enters_then, full_then}
 use Rattle.wv_code.proofs.body_writing.write_code.Goals as goal
 
 pub enter_others-requires : goal.enter_others-requires

@@ -1,4 +1,3 @@
-use Rattle.std.proofs.Common.{◌≡◌}
 use Rattle.wv_code.specs.Reading.{attributes_fit}
 use Rattle.wv_code.proofs.TableRooms.{attributes_allow}
 use Rattle.wv_code.proofs.content.attribute_count_at.Goals as goal

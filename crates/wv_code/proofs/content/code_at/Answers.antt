@@ -1,8 +1,8 @@
-use Rattle.std.proofs.Common.{◌≡◌, ◌∙◌, ◌-◌, ◌+◌, List, ℕ, Ok, Err, ap, sym, subst, drop, take, length, arith}
+use Rattle.std.proofs.Common.{◌≡◌, ◌∙◌, ◌-◌, List, ℕ, Ok, ap, sym, drop, take, length, arith}
 use Rattle.std.proofs.lemmas.Result.{err_from_is_err_and}
 use Rattle.std.proofs.lemmas.List.{length-drop}
 use Rattle.std.proofs.Math.Seq.{take-length}
-use Rattle.wv_code.proofs.CodeLoop.{Going, Step, goes_on, fails, ends}
+use Rattle.wv_code.proofs.CodeLoop.{goes_on, fails, ends}
 use Rattle.wv_code.proofs.content.code_at.Goals as goal
 
 pub returns-in_err-raw-clause-gives : goal.returns-in_err-raw-clause-gives

@@ -1,4 +1,3 @@
-use Rattle.std.proofs.Common.{◌≡◌}
 use Rattle.wv_code.specs.Reading.{code_fits}
 use Rattle.wv_code.proofs.TableRooms.{code_allows}
 use Rattle.wv_code.proofs.content.code_len_at.Goals as goal

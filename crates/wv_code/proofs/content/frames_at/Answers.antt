@@ -1,6 +1,5 @@
-use Rattle.std.proofs.Common.{◌≡◌, ◌∙◌, ◌++◌, ◌-◌, List, ℕ, Ok, ap, sym, subst, drop, take, length, min, arith}
+use Rattle.std.proofs.Common.{◌∙◌, ◌-◌, List, ℕ, sym, subst, arith}
 use Rattle.wv_frames.specs.Layout.{IsLayoutFault}
-use Rattle.wv_frames.specs.Spelling.{table_bytes}
 use Rattle.wv_code.proofs.FrameFaults.{frames_ok, frames_err}
 use Rattle.wv_code.proofs.content.frames_at.Goals as goal
 

@@ -1,4 +1,3 @@
-use Rattle.std.proofs.Common.{◌≡◌}
 use Rattle.wv_code.specs.Reading.{ranges_fit}
 use Rattle.wv_code.proofs.TableRooms.{ranges_allow}
 use Rattle.wv_code.proofs.content.range_count_at.Goals as goal

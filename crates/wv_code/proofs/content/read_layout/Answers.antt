@@ -1,4 +1,4 @@
-use Rattle.std.proofs.Common.{◌≡◌, ◌+◌, ◌≤◌, ◌<◌, length, arith}
+use Rattle.std.proofs.Common.{◌+◌, length, arith}
 use Rattle.wv_code.proofs.ContentAnswers.{room_of, was_content, one_content, no_content, content_fault}
 use Rattle.wv_code.proofs.content.read_layout.Goals as goal
 

@@ -1,4 +1,4 @@
-use Rattle.std.proofs.Common.{◌≡◌, ◌<◌, ◌++◌, take}
+use Rattle.std.proofs.Common.{◌≡◌, ◌++◌, take}
 use Rattle.std.specs.List.{flat_map, AllByRecursion}
 use Rattle.wv_code.specs.WritingBody.{HasBytes, written_bytes}
 use Rattle.wv_code.proofs.content_writing.put_attributes.Given as goal

@@ -1,1 +1,0 @@
-use Rattle.wv_code.proofs.InsnPlaces.{insn_least}

@@ -1,10 +1,7 @@
-use Rattle.std.proofs.Common.{◌≡◌, ℕ, Bool, true, length, ◌-◌, ◌^◌, ◌<◌, List, take, drop, Ok, Err, refl, sym, ap, subst, ◌∙◌, arith}
+use Rattle.std.proofs.Common.{◌≡◌, ℕ, length, ◌-◌, ◌^◌, ◌<◌, List, take, drop, Ok, sym, ap, subst, ◌∙◌, arith}
 use Rattle.std.proofs.lemmas.List.{length-drop}
 use Rattle.std.proofs.Math.Seq.{take-length}
-use Rattle.wv_code.specs.Number.{number_from}
 use Rattle.wv_code.proofs.Numbers.{are_bytes, number_found, number_stops, number_short}
-use Rattle.wv_code.proofs.ContentAnswers.{too_few}
-use Rattle.wv_code.proofs.Times.{is_done}
 use Rattle.wv_code.proofs.number.number_at.Goals as goal
 
 pub returns-in-Ok-clause-gives : goal.returns-in-Ok-clause-gives

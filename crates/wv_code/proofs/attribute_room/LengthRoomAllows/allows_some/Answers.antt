@@ -1,4 +1,4 @@
-use Rattle.std.proofs.Common.{◌≡◌, ◌≤◌, true, ℕ, ◌+◌, ◌-◌, ◌*◌, ◌<◌, Bool, false, arith, max, min, subst, sym, ◌∙◌, inl, inr}
+use Rattle.std.proofs.Common.{◌≡◌, ◌≤◌, ◌+◌, ◌*◌, arith, inl, inr}
 use Rattle.std.proofs.lemmas.Bool.{leb-true, le-leb, cases_lt}
 use Rattle.wv_code.proofs.AttributeRooms.{no_lengths, lengths_to, lengths_from, first_of, first_last, first_others}
 use Rattle.wv_code.proofs.attribute_room.LengthRoomAllows.allows_some.Goals as goal
