@@ -29,17 +29,6 @@ lengths_from least left room low high greatest first small sum last others le fi
       record { value = max first low; low = omega arith; high = omega (arith, fits); allowed = is_long least left room (max first low) (record { low = omega (arith, is, le); more = 0; sum = omega (arith, fits, is, sum); fits = record { least = omega arith; most = omega arith } }) }
 ]
 
--- a number that the pool doesn't have names nothing
-past : (pool : List PoolEntry) (place : ℕ) → length pool ≤ place → slice_get pool place ≡ None
-past [] place le = refl
-past (e ∷ pool) zero le = absurd (omega arith)
-past (e ∷ pool) (suc place) le = past pool place (omega arith)
-
-pub least_past : (pool : List PoolEntry) (number : ℕ) → length pool < number → least_content pool number ≡ 0
-unfolding names_frames
-least_past pool zero lt = absurd (omega arith)
-least_past pool (suc place) lt = ap (λ (o : Option PoolEntry). if is_frames (text_in o) then 2 else 0) (past pool place (omega arith))
-
 pub first_of : ℕ → ℕ → ℕ → ℕ
 first_of zero greatest least = greatest
 first_of (suc left) greatest least = least

@@ -1,8 +1,10 @@
 //! What fits behind an attribute's name and its length.
 ghost use Rattle.std.specs.Prelude.{◌≡◌, ◌<◌, ◌≤◌};
+ghost use Rattle.std.specs.Option.{option_copied};
+ghost use Rattle.wv_pool.specs.References.{entry_of, text_of};
 ghost use Rattle.wv_code.specs.Reading.{names_frames, attributes_fit, least_content};
 
-use wv_pool::Pool;
+use wv_base::{Name, PoolEntry};
 use wv_room::Allows;
 
 /// The longest attribute, in bytes: its name's number, its length, and the longest content (JVM
@@ -18,42 +20,47 @@ fn attributes_fit(room: u32, count: u16) -> bool
     6 * count <= room && room <= LONGEST * count
 }
 
+/// The entry with the number.
+fn entry_of(pool: &[PoolEntry], number: u32) -> Option<&PoolEntry>
+    ensures { option_copied result ≡ entry_of pool.now number }
+{
+    pool.get((number as usize).checked_sub(1)?)
+}
+
+/// The text with the number.
+fn text_of(pool: &[PoolEntry], number: u32) -> Option<&Name>
+    ensures { option_copied result ≡ text_of pool.now number }
+{
+    match entry_of(pool, number) {
+        Some(PoolEntry::Utf8(text)) => Some(text),
+        _ => None,
+    }
+}
+
 /// Whether the number is that of the name StackMapTable (JVM Specification 4.7.4).
 #[tactic(auto, unfolding(crate::specs::Reading::names_frames))]
-pub(crate) fn names_frames(pool: &Pool, number: u16) -> bool
+pub(crate) fn names_frames(pool: &[PoolEntry], number: u32) -> bool
     ensures { result ≡ names_frames pool.now number }
 {
-    match pool.text(number) {
+    match text_of(pool, number) {
         Some(text) => text.is_ascii("StackMapTable"),
         None => false,
     }
 }
 
 /// The least length of the content of an attribute with the name: a StackMapTable has a count.
-pub(crate) fn least_content(pool: &Pool, number: u16) -> u32
-    ensures { result ≡ least_content pool.now number }
-{
-    if names_frames(pool, number) { 2 } else { 0 }
-}
-
-/// The same of a number that may have more than two bytes, and then names nothing.
-fn least_for(pool: &Pool, number: u32) -> u32
+pub(crate) fn least_content(pool: &[PoolEntry], number: u32) -> u32
     ensures value { result ≡ least_content pool.now number }
     ensures few { result ≤ 2 }
 {
-    // A pool has fewer numbers than two bytes can name.
-    let _ = pool.entries();
-    match u16::try_from(number) {
-        Ok(number) => least_content(pool, number),
-        Err(_) => 0,
-    }
+    if names_frames(pool, number) { 2 } else { 0 }
 }
 
 /// A number of an attribute's name, behind which an attribute of that name and so many more
 /// fit the room.
 #[derive(Drop)]
 pub(crate) struct NameRoom<'a> {
-    pub pool: &'a Pool,
+    pub pool: &'a [PoolEntry],
     pub left: u16,
     pub room: u32,
 }
@@ -66,7 +73,7 @@ impl Allows for NameRoom<'_> {
 
     #[tactic(auto, unfolding(crate::specs::Reading::name_fits))]
     fn allows_value(&self, value: u32) -> bool {
-        let least = least_for(self.pool, value);
+        let least = least_content(self.pool, value);
         let (room, left) = (u64::from(self.room), u64::from(self.left));
         4 + u64::from(least) + 6 * left <= room && room + 2 <= LONGEST * (left + 1)
     }

@@ -14,9 +14,8 @@ use crate::raw_body::{RawAttribute, RawBody, RawRange};
 use crate::splitting::RawCode;
 use crate::stop::Stop;
 use std::alloc::Global;
-use wv_base::{Attribute, Bytes, ClassFault, Items};
+use wv_base::{Attribute, Bytes, ClassFault, Items, PoolEntry};
 use wv_frames::read_layout as read_frames;
-use wv_pool::Pool;
 use wv_room::{TableCount, TableKind, Tables};
 
 /// How many bytes stand behind a number of so many bytes, of which some may be missing.
@@ -108,7 +107,7 @@ fn attribute_count_at(missing: u32, bytes: &[u8]) -> Result<(u32, &[u8]), Stop>
 
 /// The number of an attribute's name, behind which it and so many more fit.
 fn name_at<'a>(
-    pool: &Pool,
+    pool: &[PoolEntry],
     left: u16,
     missing: u32,
     bytes: &'a [u8],
@@ -228,7 +227,7 @@ fn frames_at(alloc: Global, name: u16, len: u32, bytes: &[u8]) -> Result<(RawAtt
 #[tactic(auto, unfolding(crate::specs::Reading::attribute_at))]
 fn attribute_at<'a>(
     alloc: Global,
-    pool: &Pool,
+    pool: &[PoolEntry],
     left: u16,
     missing: u32,
     bytes: &'a [u8],
@@ -238,8 +237,9 @@ fn attribute_at<'a>(
     ensures shorter { IfOk result (λ x. length x.1.now ≤ length bytes.now) }
 {
     let (name, rest) = name_at(pool, left, missing, bytes)?;
-    let (len, rest) = length_at(least_content(pool, name), left, missing, rest)?;
-    if names_frames(pool, name) {
+    let number = u32::from(name);
+    let (len, rest) = length_at(least_content(pool, number), left, missing, rest)?;
+    if names_frames(pool, number) {
         frames_at(alloc, name, len, rest)
     } else {
         kept_at(alloc, name, len, rest)
@@ -248,7 +248,7 @@ fn attribute_at<'a>(
 
 fn attributes_in<'a>(
     alloc: Global,
-    pool: &Pool,
+    pool: &[PoolEntry],
     count: u16,
     missing: u32,
     bytes: &'a [u8],
@@ -271,7 +271,7 @@ fn attributes_in<'a>(
 #[tactic(auto, unfolding(crate::specs::Reading::tables_at))]
 fn tables_at<'a>(
     alloc: Global,
-    pool: &Pool,
+    pool: &[PoolEntry],
     missing: u32,
     bytes: &'a [u8],
 ) -> Result<((Items<RawRange>, Items<RawAttribute>), &'a [u8]), Stop>
@@ -290,7 +290,7 @@ fn tables_at<'a>(
 #[tactic(auto, unfolding(crate::specs::Reading::content_at))]
 fn content_at<'a>(
     alloc: Global,
-    pool: &Pool,
+    pool: &[PoolEntry],
     missing: u32,
     bytes: &'a [u8],
 ) -> Result<(RawBody, &'a [u8]), Stop>
@@ -317,14 +317,15 @@ fn content_at<'a>(
 const LEAST: usize = 12;
 
 /// The content of a Code attribute as it is spelled, whatever its numbers name but for those of its
-/// attributes' names (JVM Specification 4.7.3 and 4.9.1). `bytes` are the first bytes of a content that
+/// attributes' names (JVM Specification 4.7.3 and 4.9.1). Of the pool's entries only the texts count,
+/// so numbers of others may name nothing that fits. `bytes` are the first bytes of a content that
 /// has `missing` bytes more, which aren't there: none for a whole one. The place of a fault counts from
 /// the start of `bytes`; it is the first byte with which no content of this size goes on, or their end.
 /// The content of an attribute has fewer than 2^32 bytes.
 pub fn read_layout(
     alloc: Global,
     bytes: &[u8],
-    pool: &Pool,
+    pool: &[PoolEntry],
     missing: u32,
 ) -> Result<RawBody, ClassFault>
     requires { length bytes.now + missing < 2 ^ 32 }

@@ -26,7 +26,7 @@ fn fault(alloc: Global, content: &[u8], missing: u32) -> Result<Option<usize>, F
         return Err("the content is long".into());
     }
     let (pool, _len) = read_pool(alloc, &POOL)?;
-    match read_layout(alloc, content, &pool, missing) {
+    match read_layout(alloc, content, pool.entries(), missing) {
         Ok(_) => Ok(None),
         Err(ClassFault::Layout { at }) => Ok(Some(at)),
         Err(fault) => Err(fault.into()),
@@ -36,7 +36,7 @@ fn fault(alloc: Global, content: &[u8], missing: u32) -> Result<Option<usize>, F
 #[test]
 fn a_content(rt: HostRuntime) -> Result<(), Fail> {
     let (pool, _len) = read_pool(rt.alloc(), &POOL)?;
-    let raw = read_layout(rt.alloc(), &CONTENT, &pool, 0)?;
+    let raw = read_layout(rt.alloc(), &CONTENT, pool.entries(), 0)?;
     assert_eq!(rt; (raw.max_stack, raw.max_locals, raw.len), (1, 2, 4));
     assert_eq!(rt; raw.code.offsets.as_slice(), [0, 1].as_slice());
     assert_eq!(rt; raw.ranges.len(), 1);

@@ -31,7 +31,7 @@ pub fn read_code(
     ensures formed { IfOk result (λ body. AreFormed body.insns) }
     ensures fault { IfErr result (BodyBreaks pool.now first.now bytes.now) }
 {
-    let raw = read_layout(alloc, bytes, pool, 0)?;
+    let raw = read_layout(alloc, bytes, pool.entries(), 0)?;
     if let Some(at) = first_break(alloc, pool, first, &raw)? {
         return Err(ClassFault::Reference { at });
     }

@@ -31,7 +31,7 @@ fn place(alloc: Global, code: &[u8], rest: &[u8]) -> Result<Option<usize>, Fail>
         return Err("the content is long".into());
     }
     let (pool, _len) = read_pool(alloc, &POOL)?;
-    let raw = read_layout(alloc, &content, &pool, 0)?;
+    let raw = read_layout(alloc, &content, pool.entries(), 0)?;
     let first = Frame {
         locals: Items::new(alloc),
         stack: Items::new(alloc),
