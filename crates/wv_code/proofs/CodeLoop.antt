@@ -30,9 +30,16 @@ lines_push at (q ∷ raws) (o ∷ offsets) text r more lines s =
     let back = lines.1.1 in
     let parts : text ≡ front ++ back = lines.1.2 in
     let here : at + length text ≡ at + length front + length back = omega (arith, ap length parts, length-append front back) in
-    let others = lines_push (at + length front) raws offsets back r more lines.1.4 (subst (λ (k : ℕ). Spells k r more) here s) in
-    (lines.0, (front, back ++ more, ap (λ (z : List ℕ). z ++ more) parts ∙ append_assoc front back more, lines.1.3,
-        subst (λ (k : ℕ). Lines (at + length front) (raws ++ r ∷ []) (offsets ++ k ∷ []) (back ++ more)) (sym here) others))
+    let others = lines_push (at + length front) raws offsets back r more lines.1.4 (subst (λ (k : ℕ). Spells k r more) here s) in (
+      lines.0,
+      (
+        front,
+        back ++ more,
+        ap (λ (z : List ℕ). z ++ more) parts ∙ append_assoc front back more,
+        lines.1.3,
+        subst (λ (k : ℕ). Lines (at + length front) (raws ++ r ∷ []) (offsets ++ k ∷ []) (back ++ more)) (sym here) others,
+      ),
+    )
 
 -- What the loop keeps: lines up to a place, and room for the rest.
 pub record Going (bytes : List ℕ) (tail missing at : ℕ) (raws : List Raw) (offsets : List ℕ) : Type 0 where
@@ -59,10 +66,10 @@ goes_on bytes tail missing at raws offsets raw rest fits g lt e =
     let front : length (take at bytes) ≡ at = omega (arith, length-take at bytes, g.within) in
     let all : bytes ≡ (take at bytes ++ t.text) ++ rest = whole ∙ ap (λ (z : List ℕ). take at bytes ++ z) t.parts ∙ sym (append_assoc (take at bytes) t.text rest) in
     let taken : take (length bytes - length rest) bytes ≡ take at bytes ++ t.text =
-        ap (take (length bytes - length rest)) all ∙ take_at (take at bytes ++ t.text) rest (length bytes - length rest) (omega (arith, length-append (take at bytes) t.text, front, place)) in
+    ap (take (length bytes - length rest)) all ∙ take_at (take at bytes ++ t.text) rest (length bytes - length rest) (omega (arith, length-append (take at bytes) t.text, front, place)) in
     let here : 0 + length (take at bytes) ≡ at = omega (arith, front) in
     let pushed : Lines 0 (raws ++ raw ∷ []) (offsets ++ at ∷ []) (take at bytes ++ t.text) =
-        subst (λ (k : ℕ). Lines 0 (raws ++ raw ∷ []) (offsets ++ k ∷ []) (take at bytes ++ t.text)) here (lines_push 0 raws offsets (take at bytes) raw t.text g.lines (subst (λ (k : ℕ). Spells k raw t.text) (sym here) t.spelled)) in
+    subst (λ (k : ℕ). Lines 0 (raws ++ raw ∷ []) (offsets ++ k ∷ []) (take at bytes ++ t.text)) here (lines_push 0 raws offsets (take at bytes) raw t.text g.lines (subst (λ (k : ℕ). Spells k raw t.text) (sym here) t.spelled)) in
     record {
       going = record { within = omega arith; lines = subst (λ (z : List ℕ). Lines 0 (raws ++ raw ∷ []) (offsets ++ at ∷ []) z) (sym taken) pushed; room = omega (arith, t.rest, g.within, size, sum) };
       further = omega (arith, place, long);

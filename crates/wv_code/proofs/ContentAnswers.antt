@@ -40,9 +40,14 @@ lines_follow front text (r ∷ raws) (o ∷ offsets) lines =
     let whole : front ++ text ≡ (front ++ one) ++ back = ap (λ (z : List ℕ). front ++ z) parts ∙ sym (append_assoc front one back) in
     let here : take (length one) (drop (length front) (front ++ text)) ≡ one = ap (take (length one)) (drop_at front text (length front) refl ∙ parts) ∙ take_at one back (length one) refl in
     let others = lines_follow (front ++ one) back raws offsets (subst (λ (k : ℕ). Lines k raws offsets back) (sym (length-append front one)) lines.1.4) in
-    let end : length (front ++ one) + length back ≡ length front + length text = omega (arith, length-append front one, ap length parts, length-append one back) in
-    (lines.0, (length one, record { within = omega (arith, length-append front text, ap length parts, length-append one back); spelled = subst (λ (z : List ℕ). Spells (length front) r z) (sym here) lines.1.3 },
-        subst (λ (k : ℕ). Follow (front ++ text) (length front + length one) raws offsets k) end (rw whole (subst (λ (k : ℕ). Follow ((front ++ one) ++ back) k raws offsets (length (front ++ one) + length back)) (length-append front one) others))))
+    let end : length (front ++ one) + length back ≡ length front + length text = omega (arith, length-append front one, ap length parts, length-append one back) in (
+      lines.0,
+      (
+        length one,
+        record { within = omega (arith, length-append front text, ap length parts, length-append one back); spelled = subst (λ (z : List ℕ). Spells (length front) r z) (sym here) lines.1.3 },
+        subst (λ (k : ℕ). Follow (front ++ text) (length front + length one) raws offsets k) end (rw whole (subst (λ (k : ℕ). Follow ((front ++ one) ++ back) k raws offsets (length (front ++ one) + length back)) (length-append front one) others)),
+      ),
+    )
 
 pub follow_lines : (code : List ℕ) (at : ℕ) (raws : List Raw) (offsets : List ℕ) → at ≤ length code → Follow code at raws offsets (length code) → Lines at raws offsets (drop at code)
 follow_lines code at [] [] le f = nil_from_length (drop at code) (omega (arith, length-drop at code, f))
@@ -53,9 +58,16 @@ follow_lines code at (r ∷ raws) (o ∷ offsets) le f =
     let stands : Stands code at r len = f.1.1 in
     let front : List ℕ = take len (drop at code) in
     let long : length front ≡ len = omega (arith, length-take len (drop at code), length-drop at code, stands.within) in
-    let others = follow_lines code (at + len) raws offsets stands.within f.1.2 in
-    (f.0, (front, drop len (drop at code), sym (take-append-drop len (drop at code)), stands.spelled,
-        subst (λ (z : List ℕ). Lines (at + length front) raws offsets z) (sym (drop_more at len code)) (subst (λ (k : ℕ). Lines (at + k) raws offsets (drop (at + len) code)) (sym long) others)))
+    let others = follow_lines code (at + len) raws offsets stands.within f.1.2 in (
+      f.0,
+      (
+        front,
+        drop len (drop at code),
+        sym (take-append-drop len (drop at code)),
+        stands.spelled,
+        subst (λ (z : List ℕ). Lines (at + length front) raws offsets z) (sym (drop_more at len code)) (subst (λ (k : ℕ). Lines (at + k) raws offsets (drop (at + len) code)) (sym long) others),
+      ),
+    )
 
 -- ---- the content
 
@@ -115,35 +127,45 @@ is_content pool raw text c = record {
       back = _;
       parts = refl;
       first_is = (c.small, refl);
-      second_is = (c.small, record {
-        first = (raw.code.raws, raw.code.offsets);
-        front = c.code;
-        back = _;
-        parts = refl;
-        first_is = (c.whole, follow_lines c.code 0 raw.code.raws raw.code.offsets (omega arith) (subst (λ (k : ℕ). Follow c.code 0 raw.code.raws raw.code.offsets k) (sym c.whole) c.follow));
-        second_is = ((raw.ranges, raw.attributes), refl, record {
-          first = length raw.ranges;
-          front = number_bytes (length raw.ranges);
+      second_is = (
+        c.small,
+        record {
+          first = (raw.code.raws, raw.code.offsets);
+          front = c.code;
           back = _;
           parts = refl;
-          first_is = (c.few_ranges, refl);
-          second_is = (c.few_ranges, record {
-            first = raw.ranges;
-            front = flat_map range_bytes raw.ranges;
-            back = _;
-            parts = refl;
-            first_is = (refl, c.ranges, refl);
-            second_is = record {
-              first = length raw.attributes;
-              front = number_bytes (length raw.attributes);
-              back = flat_map attribute_bytes raw.attributes;
+          first_is = (c.whole, follow_lines c.code 0 raw.code.raws raw.code.offsets (omega arith) (subst (λ (k : ℕ). Follow c.code 0 raw.code.raws raw.code.offsets k) (sym c.whole) c.follow));
+          second_is = (
+            (raw.ranges, raw.attributes),
+            refl,
+            record {
+              first = length raw.ranges;
+              front = number_bytes (length raw.ranges);
+              back = _;
               parts = refl;
-              first_is = (c.few_attributes, refl);
-              second_is = (c.few_attributes, (raw.attributes, refl, (refl, c.attributes, refl)));
-            };
-          });
-        });
-      });
+              first_is = (c.few_ranges, refl);
+              second_is = (
+                c.few_ranges,
+                record {
+                  first = raw.ranges;
+                  front = flat_map range_bytes raw.ranges;
+                  back = _;
+                  parts = refl;
+                  first_is = (refl, c.ranges, refl);
+                  second_is = record {
+                    first = length raw.attributes;
+                    front = number_bytes (length raw.attributes);
+                    back = flat_map attribute_bytes raw.attributes;
+                    parts = refl;
+                    first_is = (c.few_attributes, refl);
+                    second_is = (c.few_attributes, (raw.attributes, refl, (refl, c.attributes, refl)));
+                  };
+                },
+              );
+            },
+          );
+        },
+      );
     };
   };
 }
@@ -187,7 +209,7 @@ broken_content pool missing bytes left d e =
     let place : length bytes - left ≡ length d.front = omega (arith, sizes, d.place) in
     let front : take (length bytes - left) bytes ≡ d.front = ap (take (length bytes - left)) d.parts ∙ take_at d.front (d.byte ∷ d.rest) (length bytes - left) (sym place) in
     let longer : take (length bytes - left + 1) bytes ≡ d.front ++ d.byte ∷ [] =
-        ap (take (length bytes - left + 1)) (d.parts ∙ sym (append_assoc d.front (d.byte ∷ []) d.rest)) ∙ take_at (d.front ++ d.byte ∷ []) d.rest (length bytes - left + 1) (omega (arith, length-append d.front (d.byte ∷ []), place)) in
+    ap (take (length bytes - left + 1)) (d.parts ∙ sym (append_assoc d.front (d.byte ∷ []) d.rest)) ∙ take_at (d.front ++ d.byte ∷ []) d.rest (length bytes - left + 1) (omega (arith, length-append d.front (d.byte ∷ []), place)) in
     record {
       within = omega arith;
       begun = λ some. subst (λ (z : List ℕ). Begins pool (length bytes + missing) z) (sym front) (subst (λ (k : ℕ). Begins pool k d.front) (omega (arith, sizes)) (begins_of pool d.front (suc (length d.rest + missing)) d.begun));

@@ -276,7 +276,7 @@ RangesRoom Q k n = Span (8 * k) Q n
 pub ranges_read : (Q : ℕ → Type 0) (k : ℕ) → Reads (times (λ left missing. range_at) k) (Items IsRange range_bytes k) (RangesRoom Q k) (λ _. RangesRoom Q 0)
 ranges_read Q k = items_read IsRange range_bytes (λ left missing. range_at) (RangesRoom Q)
     (λ n. resized (Span 8 (RangesRoom Q n)) (RangesRoom Q (suc n))
-        (λ m p. record { more = 8 * n + p.more; sum = omega (arith, p.sum); rest = record { more = p.more; sum = refl; rest = p.rest } })
-        (λ m p. record { more = p.rest.more; sum = omega (arith, p.sum, p.rest.sum); rest = p.rest.rest })
-        (range_read (RangesRoom Q n)))
+    (λ m p. record { more = 8 * n + p.more; sum = omega (arith, p.sum); rest = record { more = p.more; sum = refl; rest = p.rest } })
+    (λ m p. record { more = p.rest.more; sum = omega (arith, p.sum, p.rest.sum); rest = p.rest.rest })
+    (range_read (RangesRoom Q n)))
     k

@@ -30,14 +30,14 @@ given {A} {read} {S} {P} {Q} F r = record {
   again = λ missing value text rest s q. (r s.0).again missing value text rest s.1 q;
   stops = λ missing bytes left fits p e. elim ((r p.0).stops missing bytes left fits p.1 e) [
     | inl d ↦ inl (record {
-        front = d.front;
-        byte = d.byte;
-        rest = d.rest;
-        parts = d.parts;
-        place = d.place;
-        begun = record { value = d.begun.value; more = d.begun.more; extra = d.begun.extra; spelled = (p.0, d.begun.spelled); rest = d.begun.rest; sum = d.begun.sum };
-        stays = d.stays;
-      })
+      front = d.front;
+      byte = d.byte;
+      rest = d.rest;
+      parts = d.parts;
+      place = d.place;
+      begun = record { value = d.begun.value; more = d.begun.more; extra = d.begun.extra; spelled = (p.0, d.begun.spelled); rest = d.begun.rest; sum = d.begun.sum };
+      stays = d.stays;
+    })
     | inr d ↦ inr (record { place = d.place; some = d.some; begun = record { value = d.begun.value; more = d.begun.more; extra = d.begun.extra; spelled = (p.0, d.begun.spelled); rest = d.begun.rest; sum = d.begun.sum } })
   ];
   there = λ n p. let f = (r p.0).there n p.1 in record { value = f.value; text = f.text; more = f.more; spelled = (p.0, f.spelled); rest = f.rest; sum = f.sum };
@@ -99,8 +99,8 @@ sized_read : (b : Bool) (left name : ℕ) → Reads (sized_at b left name) (Size
 sized_read b left name =
     then (λ len missing bytes. content_of b name len missing bytes) (longs (length_fits (least_of b) left)) (λ len.
     resized (λ n. LengthFact b len × Span len (λ m. Fit m left) n) (Passes 4 (length_fits (least_of b) left) len)
-        (λ n p. let l = long_is (least_of b) left n len p.1 in ((omega (arith, p.0), l.low), record { more = l.more; sum = l.sum; rest = l.fits }))
-        (λ n p. (omega (arith, p.0.0), is_long (least_of b) left n len (record { low = p.0.1; more = p.1.more; sum = p.1.sum; fits = p.1.rest })))
+    (λ n p. let l = long_is (least_of b) left n len p.1 in ((omega (arith, p.0), l.low), record { more = l.more; sum = l.sum; rest = l.fits }))
+    (λ n p. (omega (arith, p.0.0), is_long (least_of b) left n len (record { low = p.0.1; more = p.1.more; sum = p.1.sum; fits = p.1.rest })))
     (given (LengthFact b len) (content_read b name len (λ m. Fit m left))))
 
 abbrev AttributeText : List PoolEntry → RawAttribute → List ℕ → Type 0
@@ -117,16 +117,17 @@ attribute_text_read : (pool : List PoolEntry) (left : ℕ) → Reads (attribute_
 attribute_text_read pool left =
     then (λ name missing bytes. sized_at (names_frames pool name) left name missing bytes) (shorts (name_fits pool left)) (λ name.
     resized (λ n. (name < 2 ^ 16) × NumberRoom 4 (length_fits (least_content pool name) left) n) (Passes 2 (name_fits pool left) name)
-        (λ n p. (omega (arith, p.0), some_length (least_content pool name) left n (least_few pool name) (named_is pool left n name p.1)))
-        (λ n p. (omega (arith, p.0), is_named pool left n name (length_room (least_content pool name) left n p.1)))
+    (λ n p. (omega (arith, p.0), some_length (least_content pool name) left n (least_few pool name) (named_is pool left n name p.1)))
+    (λ n p. (omega (arith, p.0), is_named pool left n name (length_room (least_content pool name) left n p.1)))
     (given (name < 2 ^ 16) (λ lt. sized_read (names_frames pool name) left name)))
 
 content_to : (pool : List PoolEntry) (name len : ℕ) (b : Bool) → names_frames pool name ≡ b → name < 2 ^ 16 → (a : RawAttribute) (text : List ℕ) → LengthFact b len → PartText b name len a text
     → IsAttribute pool a × (number_bytes name ++ (length_bytes len ++ text) ≡ attribute_bytes a)
 content_to pool name len true e lt a text f s =
-    subst (λ (x : RawAttribute). IsAttribute pool x × (number_bytes name ++ (length_bytes len ++ text) ≡ attribute_bytes x)) (sym s.1)
-    ((lt, names_is pool name e, s.3, omega (arith, ap length s.4, s.2, f.0)),
-    ap (λ (k : ℕ). number_bytes name ++ (length_bytes k ++ text)) (sym s.2 ∙ ap length s.4) ∙ ap (λ (z : List ℕ). number_bytes name ++ (length_bytes (length (table_bytes s.0)) ++ z)) s.4)
+    subst (λ (x : RawAttribute). IsAttribute pool x × (number_bytes name ++ (length_bytes len ++ text) ≡ attribute_bytes x)) (sym s.1) (
+      (lt, names_is pool name e, s.3, omega (arith, ap length s.4, s.2, f.0)),
+      ap (λ (k : ℕ). number_bytes name ++ (length_bytes k ++ text)) (sym s.2 ∙ ap length s.4) ∙ ap (λ (z : List ℕ). number_bytes name ++ (length_bytes (length (table_bytes s.0)) ++ z)) s.4,
+    )
 content_to pool name len false e lt a text f s =
     subst (λ (x : RawAttribute). IsAttribute pool x × (number_bytes name ++ (length_bytes len ++ text) ≡ attribute_bytes x)) (sym s.0)
     ((lt, names_not pool name e, omega (arith, s.1, f.0), s.2), ap (λ (k : ℕ). number_bytes name ++ (length_bytes k ++ text)) (sym s.1))
@@ -144,14 +145,17 @@ sized_from pool name b e a content small least c lt = record {
   back = length_bytes (length content) ++ content;
   parts = refl;
   first_is = (lt, refl);
-  second_is = (lt, subst (λ (z : Bool). SizedText z name a (length_bytes (length content) ++ content)) (sym e) (record {
-    first = length content;
-    front = length_bytes (length content);
-    back = content;
-    parts = refl;
-    first_is = (small, refl);
-    second_is = ((small, least), c);
-  }));
+  second_is = (
+    lt,
+    subst (λ (z : Bool). SizedText z name a (length_bytes (length content) ++ content)) (sym e) (record {
+      first = length content;
+      front = length_bytes (length content);
+      back = content;
+      parts = refl;
+      first_is = (small, refl);
+      second_is = ((small, least), c);
+    }),
+  );
 }
 
 attribute_from : (pool : List PoolEntry) (a : RawAttribute) (text : List ℕ) → Item (IsAttribute pool) attribute_bytes a text → AttributeText pool a text
@@ -208,8 +212,8 @@ tables_read pool =
     (resized (NumberRoom 2 ranges_fit) Tables tables_ranged ranged_tables
     (then (λ count missing bytes. count_behind pool count missing bytes) (shorts ranges_fit) (λ count.
     resized (λ n. (count < 2 ^ 16) × RangesRoom Table count n) (Passes 2 ranges_fit count)
-        (λ n p. let r = ranged_is n count p.1 in (omega (arith, p.0), record { more = r.more; sum = r.sum; rest = r.table }))
-        (λ n p. (omega (arith, p.0), is_ranged n count (record { more = p.1.more; sum = p.1.sum; table = p.1.rest })))
+    (λ n p. let r = ranged_is n count p.1 in (omega (arith, p.0), record { more = r.more; sum = r.sum; rest = r.table }))
+    (λ n p. (omega (arith, p.0), is_ranged n count (record { more = p.1.more; sum = p.1.sum; table = p.1.rest })))
     (given (count < 2 ^ 16) (λ lt. behind_count_read pool count)))))
 
 -- ---- the content
@@ -247,8 +251,8 @@ locals_behind_read : (pool : List PoolEntry) (stack locals : ℕ) → Reads (loc
 locals_behind_read pool stack locals =
     then (λ len missing bytes. code_behind pool stack locals len missing bytes) (longs code_fits) (λ len.
     resized (λ n. (len < 2 ^ 32) × Span len Tables n) (Passes 4 code_fits len)
-        (λ n p. let c = coded_is n len p.1 in (omega (arith, p.0), record { more = c.more; sum = c.sum; rest = c.tables }))
-        (λ n p. (omega (arith, p.0), is_coded n len (record { more = p.1.more; sum = p.1.sum; tables = p.1.rest })))
+    (λ n p. let c = coded_is n len p.1 in (omega (arith, p.0), record { more = c.more; sum = c.sum; rest = c.tables }))
+    (λ n p. (omega (arith, p.0), is_coded n len (record { more = p.1.more; sum = p.1.sum; tables = p.1.rest })))
     (given (len < 2 ^ 32) (λ lt. code_behind_read pool stack locals len)))
 
 abbrev pub ContentRoom : ℕ → Type 0

@@ -17,7 +17,7 @@ shorter : (size k n : ℕ) (bytes : List ℕ) → k ≤ n → BeginsTable size (
 shorter size k n bytes le b =
     let front : take k (take n bytes) ≡ take k bytes = take-take k n bytes le in
     let whole : take k bytes ++ (drop k (take n bytes) ++ b.more) ≡ take n bytes ++ b.more =
-        sym (append_assoc (take k bytes) (drop k (take n bytes)) b.more) ∙ ap (λ (z : List ℕ). z ++ b.more) (ap (λ (z : List ℕ). z ++ drop k (take n bytes)) (sym front) ∙ take-append-drop k (take n bytes)) in
+    sym (append_assoc (take k bytes) (drop k (take n bytes)) b.more) ∙ ap (λ (z : List ℕ). z ++ b.more) (ap (λ (z : List ℕ). z ++ drop k (take n bytes)) (sym front) ∙ take-append-drop k (take n bytes)) in
     record { frames = b.frames; more = drop k (take n bytes) ++ b.more; layout = b.layout; bytes = whole ∙ b.bytes; sized = b.sized }
 
 whole_begins : (bytes : List ℕ) (raw : List RawFrame) (size : ℕ) → IsLayout raw → bytes ≡ table_bytes raw → length bytes ≡ size → BeginsTable size bytes

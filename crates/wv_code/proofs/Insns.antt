@@ -185,14 +185,14 @@ module _ (one : ℕ → ℕ → ℕ → List ℕ → Result (Raw × List ℕ) �
 
   first_stops : (at tail missing : ℕ) (bytes : List ℕ) (left : ℕ) → tail < length bytes + missing → Stopped (one at tail) (Spells at) (λ _ m. tail ≤ m) missing bytes left → BrokenCode at tail missing bytes left ⊎ EndedCode at tail missing bytes left
   first_stops at tail missing bytes left lt (inl d) = inl (record {
-      front = d.front;
-      byte = d.byte;
-      rest = d.rest;
-      parts = d.parts;
-      place = d.place;
-      begun = begun_code at tail d.front (suc (length d.rest + missing)) d.begun;
-      stays = first_stays at tail missing bytes left lt d;
-    })
+    front = d.front;
+    byte = d.byte;
+    rest = d.rest;
+    parts = d.parts;
+    place = d.place;
+    begun = begun_code at tail d.front (suc (length d.rest + missing)) d.begun;
+    stays = first_stays at tail missing bytes left lt d;
+  })
   first_stops at tail missing bytes left lt (inr d) = inr (record { place = d.place; some = d.some; begun = begun_code at tail bytes missing d.begun })
 
   -- code behind an instruction
@@ -214,14 +214,14 @@ module _ (one : ℕ → ℕ → ℕ → List ℕ → Result (Raw × List ℕ) �
   second_stops : (at tail missing : ℕ) (bytes rest text : List ℕ) (r : Raw) (left : ℕ) → bytes ≡ text ++ rest → Spells at r text → tail ≤ length rest + missing → BrokenCode (at + length text) tail missing rest left ⊎ EndedCode (at + length text) tail missing rest left
       → BrokenCode at tail missing bytes left ⊎ EndedCode at tail missing bytes left
   second_stops at tail missing bytes rest text r left parts s le (inl d) = inl (record {
-      front = text ++ d.front;
-      byte = d.byte;
-      rest = d.rest;
-      parts = parts ∙ ap (λ (z : List ℕ). text ++ z) d.parts ∙ sym (append_assoc text d.front (d.byte ∷ d.rest));
-      place = d.place;
-      begun = more_code at tail r text d.front (suc (length d.rest + missing)) s d.begun;
-      stays = second_stays at tail missing bytes rest text r left parts s le d;
-    })
+    front = text ++ d.front;
+    byte = d.byte;
+    rest = d.rest;
+    parts = parts ∙ ap (λ (z : List ℕ). text ++ z) d.parts ∙ sym (append_assoc text d.front (d.byte ∷ d.rest));
+    place = d.place;
+    begun = more_code at tail r text d.front (suc (length d.rest + missing)) s d.begun;
+    stays = second_stays at tail missing bytes rest text r left parts s le d;
+  })
   second_stops at tail missing bytes rest text r left parts s le (inr d) = inr (record { place = d.place; some = d.some; begun = subst (λ (z : List ℕ). BegunCode at tail z missing) (sym parts) (more_code at tail r text rest missing s d.begun) })
 
   behind_fails : (at steps : ℕ) (r : Raw) (z : Result (Code × List ℕ) ℕ) (left : ℕ) → (z >>= behind at steps r) ≡ Err left → z ≡ Err left

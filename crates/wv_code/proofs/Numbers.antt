@@ -259,25 +259,25 @@ stopped_from test (suc w) n [] left are some e = inr (record { place = cc; goes 
 stopped_from test (suc w) n (b ∷ rest) left are some e = elim (cases_Bool (some_with test w (n * 256 + b))) [
   | inl holds ↦ elim (stopped_from test w (n * 256 + b) rest left are.1 holds (let f = rw holds at e in f)) [
     | inl d ↦ inl (record {
-        front = b ∷ d.front;
-        byte = d.byte;
-        rest = d.rest;
-        parts = ap (λ (z : List ℕ). b ∷ z) d.parts;
-        place = d.place;
-        goes = goes_some test w n b d.front are.0 d.goes;
-        stays = λ others. rw holds (d.stays others);
-      })
+      front = b ∷ d.front;
+      byte = d.byte;
+      rest = d.rest;
+      parts = ap (λ (z : List ℕ). b ∷ z) d.parts;
+      place = d.place;
+      goes = goes_some test w n b d.front are.0 d.goes;
+      stays = λ others. rw holds (d.stays others);
+    })
     | inr d ↦ inr (record { place = d.place; goes = goes_some test w n b rest are.0 d.goes; short = omega (arith, d.short) })
   ]
   | inr fails ↦ inl (record {
-      front = [];
-      byte = b;
-      rest = rest;
-      parts = refl;
-      place = let f : Path (Result (ℕ × List ℕ) ℕ) (Err (suc (length rest))) (Err left) = rw fails at e in cc;
-      goes = true_goes test (suc w) n some;
-      stays = λ others. rw fails refl;
-    })
+    front = [];
+    byte = b;
+    rest = rest;
+    parts = refl;
+    place = let f : Path (Result (ℕ × List ℕ) ℕ) (Err (suc (length rest))) (Err left) = rw fails at e in cc;
+    goes = true_goes test (suc w) n some;
+    stays = λ others. rw fails refl;
+  })
 ]
 
 -- a number of so many bytes that passes the test for what is left

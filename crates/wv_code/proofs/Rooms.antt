@@ -79,10 +79,12 @@ pub counts_table : (n : ℕ) → NumberRoom 2 attributes_fit n → Table n
 counts_table n r =
     let k = number_with 2 attributes_fit n r in
     let f = fit_is r.more k.0 k.2 in
-    record { is = elim (cases_lt 0 k.0) [
-      | inl some ↦ inr (omega (arith, f.least, r.sum), omega (arith, f.most, r.sum, k.1))
-      | inr none ↦ inl (omega (arith, f.most, r.sum))
-    ] }
+    record {
+      is = elim (cases_lt 0 k.0) [
+        | inl some ↦ inr (omega (arith, f.least, r.sum), omega (arith, f.most, r.sum, k.1))
+        | inr none ↦ inl (omega (arith, f.most, r.sum))
+      ];
+    }
 
 -- ---- ranges
 
@@ -139,13 +141,15 @@ pub ranged_tables : (n : ℕ) → NumberRoom 2 ranges_fit n → Tables n
 ranged_tables n r =
     let k = number_with 2 ranges_fit n r in
     let d = ranged_is r.more k.0 k.2 in
-    record { is = elim d.table.is [
-      | inl two ↦ elim (cases_lt 0 k.0) [
-        | inl some ↦ inr (omega (arith, r.sum, d.sum, two), omega (arith, r.sum, d.sum, two, k.1))
-        | inr none ↦ inl (omega (arith, r.sum, d.sum, two))
-      ]
-      | inr more ↦ inr (omega (arith, r.sum, d.sum, more.0), omega (arith, r.sum, d.sum, more.1, k.1))
-    ] }
+    record {
+      is = elim d.table.is [
+        | inl two ↦ elim (cases_lt 0 k.0) [
+          | inl some ↦ inr (omega (arith, r.sum, d.sum, two), omega (arith, r.sum, d.sum, two, k.1))
+          | inr none ↦ inl (omega (arith, r.sum, d.sum, two))
+        ]
+        | inr more ↦ inr (omega (arith, r.sum, d.sum, more.0), omega (arith, r.sum, d.sum, more.1, k.1))
+      ];
+    }
 
 -- ---- code
 

@@ -11,23 +11,33 @@ pub code_allows : (room n : ℕ) → room < 2 ^ 32 → TablesFill (0 + n) 0 1 1 
 code_allows room n small = (
   λ fill.
       let r = reached fill in
-      is_coded room n (record { more = r.more + 4; sum = omega (arith, r.size); tables = record { is = elim (cases_lt 0 r.more) [
-        | inl some ↦ let six : 6 ≤ r.more = r.takes.gap refl some in inr (omega (arith, six), omega (arith, r.size, small))
-        | inr none ↦ inl (omega (arith, none))
-      ] } }),
+      is_coded room n (record {
+        more = r.more + 4;
+        sum = omega (arith, r.size);
+        tables = record {
+          is = elim (cases_lt 0 r.more) [
+            | inl some ↦ let six : 6 ≤ r.more = r.takes.gap refl some in inr (omega (arith, six), omega (arith, r.size, small))
+            | inr none ↦ inl (omega (arith, none))
+          ];
+        };
+      }),
   λ e.
       let c = coded_is room n e in
-      spelled small (record { more = room - (n + 4); size = elim c.tables.is [
-        | inl four ↦ omega (arith, c.sum, four)
-        | inr more ↦ omega (arith, c.sum, more.0)
-      ]; takes = record {
-        gap = λ a some. elim c.tables.is [
-          | inl four ↦ absurd (omega (arith, c.sum, four, some))
+      spelled small (record {
+        more = room - (n + 4);
+        size = elim c.tables.is [
+          | inl four ↦ omega (arith, c.sum, four)
           | inr more ↦ omega (arith, c.sum, more.0)
         ];
-        eights = λ a. absurd (omega (arith, a));
-        most = λ a. absurd (omega (arith, a));
-      } }),
+        takes = record {
+          gap = λ a some. elim c.tables.is [
+            | inl four ↦ absurd (omega (arith, c.sum, four, some))
+            | inr more ↦ omega (arith, c.sum, more.0)
+          ];
+          eights = λ a. absurd (omega (arith, a));
+          most = λ a. absurd (omega (arith, a));
+        };
+      }),
 )
 
 -- so many ranges, and the table of attributes
@@ -35,23 +45,33 @@ pub ranges_allow : (room n : ℕ) → room < 2 ^ 32 → TablesFill (0 + 8 * n) 0
 ranges_allow room n small = (
   λ fill.
       let r = reached fill in
-      is_ranged room n (record { more = r.more + 2; sum = omega (arith, r.size); table = record { is = elim (cases_lt 0 r.more) [
-        | inl some ↦ let six : 6 ≤ r.more = r.takes.gap refl some in inr (omega (arith, six), omega (arith, r.size, small))
-        | inr none ↦ inl (omega (arith, none))
-      ] } }),
+      is_ranged room n (record {
+        more = r.more + 2;
+        sum = omega (arith, r.size);
+        table = record {
+          is = elim (cases_lt 0 r.more) [
+            | inl some ↦ let six : 6 ≤ r.more = r.takes.gap refl some in inr (omega (arith, six), omega (arith, r.size, small))
+            | inr none ↦ inl (omega (arith, none))
+          ];
+        };
+      }),
   λ e.
       let c = ranged_is room n e in
-      spelled small (record { more = room - (8 * n + 2); size = elim c.table.is [
-        | inl two ↦ omega (arith, c.sum, two)
-        | inr more ↦ omega (arith, c.sum, more.0)
-      ]; takes = record {
-        gap = λ a some. elim c.table.is [
-          | inl two ↦ absurd (omega (arith, c.sum, two, some))
+      spelled small (record {
+        more = room - (8 * n + 2);
+        size = elim c.table.is [
+          | inl two ↦ omega (arith, c.sum, two)
           | inr more ↦ omega (arith, c.sum, more.0)
         ];
-        eights = λ a. absurd (omega (arith, a));
-        most = λ a. absurd (omega (arith, a));
-      } }),
+        takes = record {
+          gap = λ a some. elim c.table.is [
+            | inl two ↦ absurd (omega (arith, c.sum, two, some))
+            | inr more ↦ omega (arith, c.sum, more.0)
+          ];
+          eights = λ a. absurd (omega (arith, a));
+          most = λ a. absurd (omega (arith, a));
+        };
+      }),
 )
 
 -- so many attributes
@@ -59,15 +79,22 @@ pub attributes_allow : (room n : ℕ) → room < 2 ^ 32 → TablesFill 0 (0 + n)
 attributes_allow room n small = (
   λ fill.
       let r = reached fill in
-      is_fit room n (record { least = omega (arith, r.size); most = elim (cases_lt 0 n) [
-        | inl some ↦ omega (arith, small, some)
-        | inr none ↦ let a : 0 + n + 0 ≡ 0 = omega (arith, none) in omega (arith, r.size, r.takes.eights a, r.takes.most a, none)
-      ] }),
+      is_fit room n (record {
+        least = omega (arith, r.size);
+        most = elim (cases_lt 0 n) [
+          | inl some ↦ omega (arith, small, some)
+          | inr none ↦ let a : 0 + n + 0 ≡ 0 = omega (arith, none) in omega (arith, r.size, r.takes.eights a, r.takes.most a, none)
+        ];
+      }),
   λ e.
       let f = fit_is room n e in
-      spelled small (record { more = room - 6 * n; size = omega (arith, f.least); takes = record {
-        gap = λ a some. absurd (omega (arith, f.most, a, some));
-        eights = λ a. omega (arith, f.most, a);
-        most = λ a. omega (arith, f.most, a);
-      } }),
+      spelled small (record {
+        more = room - 6 * n;
+        size = omega (arith, f.least);
+        takes = record {
+          gap = λ a some. absurd (omega (arith, f.most, a, some));
+          eights = λ a. omega (arith, f.most, a);
+          most = λ a. omega (arith, f.most, a);
+        };
+      }),
 )

@@ -105,9 +105,7 @@ impl Allows for LengthRoom {
 
     #[tactic(auto, unfolding(crate::specs::Reading::length_fits))]
     fn allows_value(&self, value: u32) -> bool {
-        self.least <= value
-            && value <= self.room
-            && attributes_fit(self.room - value, self.left)
+        self.least <= value && value <= self.room && attributes_fit(self.room - value, self.left)
     }
 
     fn allows_some(&self, least: u32, most: u32) -> bool {

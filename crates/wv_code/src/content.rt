@@ -205,7 +205,12 @@ fn kept_at(alloc: Global, name: u16, len: u32, bytes: &[u8]) -> Result<(RawAttri
 }
 
 /// The frames of a StackMapTable, behind its length.
-fn frames_at(alloc: Global, name: u16, len: u32, bytes: &[u8]) -> Result<(RawAttribute, &[u8]), Stop>
+fn frames_at(
+    alloc: Global,
+    name: u16,
+    len: u32,
+    bytes: &[u8],
+) -> Result<(RawAttribute, &[u8]), Stop>
     ensures gives { Gives (λ x. (x.0, x.1.now)) result (frames_at name len bytes.now) }
     ensures shorter { IfOk result (λ x. length x.1.now ≤ length bytes.now) }
 {

@@ -40,10 +40,12 @@ fn a_content(rt: HostRuntime) -> Result<(), Fail> {
     assert_eq!(rt; (raw.max_stack, raw.max_locals, raw.len), (1, 2, 4));
     assert_eq!(rt; raw.code.offsets.as_slice(), [0, 1].as_slice());
     assert_eq!(rt; raw.ranges.len(), 1);
-    assert!(rt; matches!(
-        raw.attributes.as_slice(),
-        [RawAttribute::Kept(_), RawAttribute::Frames { name: 1, .. }]
-    ));
+    assert!(rt;
+        matches!(
+            raw.attributes.as_slice(),
+            [RawAttribute::Kept(_), RawAttribute::Frames { name: 1, .. }]
+        )
+    );
     Ok(())
 }
 
@@ -52,7 +54,11 @@ fn a_content(rt: HostRuntime) -> Result<(), Fail> {
 fn missing_bytes(rt: HostRuntime) -> Result<(), Fail> {
     for cut in 0..CONTENT.len() {
         let missing = (CONTENT.len() - cut) as u32;
-        assert_eq!(rt; fault(rt.alloc(), &CONTENT[..cut], missing)?, Some(cut), "{cut}");
+        assert_eq!(rt;
+            fault(rt.alloc(), &CONTENT[..cut], missing)?,
+            Some(cut),
+            "{cut}"
+        );
     }
     Ok(())
 }
@@ -81,7 +87,11 @@ fn cut_at_every_byte(rt: HostRuntime) -> Result<(), Fail> {
         (41..42, 38),
     ] {
         for size in sizes {
-            assert_eq!(rt; fault(rt.alloc(), &CONTENT[..size], 0)?, Some(want), "{size}");
+            assert_eq!(rt;
+                fault(rt.alloc(), &CONTENT[..size], 0)?,
+                Some(want),
+                "{size}"
+            );
         }
     }
     assert_eq!(rt; fault(rt.alloc(), &CONTENT, 0)?, None);

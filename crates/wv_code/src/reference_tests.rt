@@ -40,7 +40,11 @@ fn place(alloc: Global, code: &[u8], rest: &[u8]) -> Result<Option<usize>, Fail>
     Ok(first_break(alloc, &pool, &first, &raw)?)
 }
 
-fn check_code(rt: &impl Abort, alloc: Global, cases: &[(&[u8], Option<usize>)]) -> Result<(), Fail> {
+fn check_code(
+    rt: &impl Abort,
+    alloc: Global,
+    cases: &[(&[u8], Option<usize>)],
+) -> Result<(), Fail> {
     for (code, want) in cases {
         assert_eq!(rt; place(alloc, code, &NOTHING)?, *want, "{code:?}");
     }
@@ -161,31 +165,54 @@ fn switches(rt: HostRuntime) -> Result<(), Fail> {
         rt.alloc(),
         &[
             // tableswitch: elsewhere, its keys from 1 to 0, a target
-            (&[0xaa, 0, 0, 0, 0, 0, 0, 0, 0, 0, 0, 0, 0, 0, 0, 0, 0, 0, 0, 0], None),
-            (&[0xaa, 0, 0, 0, 0, 0, 0, 1, 0, 0, 0, 0, 0, 0, 0, 0, 0, 0, 0, 0], Some(12)),
-            (&[0xaa, 0, 0, 0, 0, 0, 0, 0, 0, 0, 0, 1, 0, 0, 0, 0], Some(16)),
-            (&[0xaa, 0, 0, 0, 0, 0, 0, 0, 0, 0, 0, 0, 0, 0, 0, 0, 0, 0, 0, 1], Some(24)),
+            (
+                &[
+                    0xaa, 0, 0, 0, 0, 0, 0, 0, 0, 0, 0, 0, 0, 0, 0, 0, 0, 0, 0, 0,
+                ],
+                None,
+            ),
+            (
+                &[
+                    0xaa, 0, 0, 0, 0, 0, 0, 1, 0, 0, 0, 0, 0, 0, 0, 0, 0, 0, 0, 0,
+                ],
+                Some(12),
+            ),
+            (
+                &[0xaa, 0, 0, 0, 0, 0, 0, 0, 0, 0, 0, 1, 0, 0, 0, 0],
+                Some(16),
+            ),
+            (
+                &[
+                    0xaa, 0, 0, 0, 0, 0, 0, 0, 0, 0, 0, 0, 0, 0, 0, 0, 0, 0, 0, 1,
+                ],
+                Some(24),
+            ),
             // lookupswitch: elsewhere, a target, a key that repeats, and one that falls
             (&[0xab, 0, 0, 0, 0, 0, 0, 1, 0, 0, 0, 0], Some(12)),
-            (&[0xab, 0, 0, 0, 0, 0, 0, 0, 0, 0, 0, 1, 0, 0, 0, 5, 0, 0, 0, 2], Some(24)),
             (
                 &[
-                    0xab, 0, 0, 0, 0, 0, 0, 0, 0, 0, 0, 2, 0, 0, 0, 5, 0, 0, 0, 0, 0, 0, 0, 5, 0, 0, 0,
-                    0,
+                    0xab, 0, 0, 0, 0, 0, 0, 0, 0, 0, 0, 1, 0, 0, 0, 5, 0, 0, 0, 2,
+                ],
+                Some(24),
+            ),
+            (
+                &[
+                    0xab, 0, 0, 0, 0, 0, 0, 0, 0, 0, 0, 2, 0, 0, 0, 5, 0, 0, 0, 0, 0, 0, 0, 5, 0,
+                    0, 0, 0,
                 ],
                 Some(28),
             ),
             (
                 &[
-                    0xab, 0, 0, 0, 0, 0, 0, 0, 0, 0, 0, 2, 0, 0, 0, 5, 0, 0, 0, 0, 0xff, 0, 0, 0, 0, 0,
-                    0, 0,
+                    0xab, 0, 0, 0, 0, 0, 0, 0, 0, 0, 0, 2, 0, 0, 0, 5, 0, 0, 0, 0, 0xff, 0, 0, 0,
+                    0, 0, 0, 0,
                 ],
                 Some(28),
             ),
             (
                 &[
-                    0xab, 0, 0, 0, 0, 0, 0, 0, 0, 0, 0, 2, 0, 0, 0, 5, 0, 0, 0, 0, 0, 0, 0, 6, 0, 0, 0,
-                    0,
+                    0xab, 0, 0, 0, 0, 0, 0, 0, 0, 0, 0, 2, 0, 0, 0, 5, 0, 0, 0, 0, 0, 0, 0, 6, 0,
+                    0, 0, 0,
                 ],
                 None,
             ),

@@ -26,6 +26,6 @@ loop-at-preserved c =
 pub returns-clause-gives : goal.returns-clause-gives
 returns-clause-gives c =
     let rest : take (length c.args.bytes.now - c.loop-at.at) (drop c.loop-at.at c.args.bytes.now) ≡ drop c.loop-at.at c.args.bytes.now =
-        ap (λ (k : ℕ). take k (drop c.loop-at.at c.args.bytes.now)) (sym (length-drop c.loop-at.at c.args.bytes.now)) ∙ take-length (drop c.loop-at.at c.args.bytes.now) in
+    ap (λ (k : ℕ). take k (drop c.loop-at.at c.args.bytes.now)) (sym (length-drop c.loop-at.at c.args.bytes.now)) ∙ take-length (drop c.loop-at.at c.args.bytes.now) in
     ends c.args.bytes.now c.args.len c.saturating_sub-tail.result c.args.missing c.loop-at.at c.loop-at.raws c.loop-at.offsets c.saturating_sub-tail.ensures c.loop-at.invariant c.loop-at-test.false
     ∙ ap (λ (z : List ℕ). Ok ((c.loop-at.raws, c.loop-at.offsets), z)) (sym rest)

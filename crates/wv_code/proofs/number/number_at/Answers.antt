@@ -7,7 +7,7 @@ use Rattle.wv_code.proofs.number.number_at.Goals as goal
 pub returns-in-Ok-clause-gives : goal.returns-in-Ok-clause-gives
 returns-in-Ok-clause-gives g c = λ test is.
     let rest : take (length c.args.bytes.now - c.args.width) (drop c.args.width c.args.bytes.now) ≡ drop c.args.width c.args.bytes.now =
-        ap (λ (k : ℕ). take k (drop c.args.width c.args.bytes.now)) (sym (length-drop c.args.width c.args.bytes.now)) ∙ take-length (drop c.args.width c.args.bytes.now) in
+    ap (λ (k : ℕ). take k (drop c.args.width c.args.bytes.now)) (sym (length-drop c.args.width c.args.bytes.now)) ∙ take-length (drop c.args.width c.args.bytes.now) in
     number_found (g.A.Allows.allows c.args.allowed.now) test (λ n. (is n).0) c.args.width c.args.bytes.now (are_bytes c.args.bytes.now (λ i. omega (arith, c.type_inv.bytes i))) c.in-Ok.ensures.within c.in-Ok.number c.in-Ok.ensures.spelled c.in-Ok.ensures.allowed
     ∙ ap (λ (z : List ℕ). Ok (c.in-Ok.number, z)) (sym rest)
 

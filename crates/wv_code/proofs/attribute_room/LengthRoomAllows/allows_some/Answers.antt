@@ -4,10 +4,13 @@ use Rattle.wv_code.proofs.AttributeRooms.{no_lengths, lengths_to, lengths_from, 
 use Rattle.wv_code.proofs.attribute_room.LengthRoomAllows.allows_some.Goals as goal
 
 pub returns-in_default : goal.returns-in_default
-returns-in_default c = (λ t. absurd cc, λ a. absurd (no_lengths c.args.self.now.least c.args.self.now.left c.args.self.now.room c.args.least c.args.most (elim (cases_lt c.args.self.now.room (6 * c.args.self.now.left)) [
+returns-in_default c = (
+  λ t. absurd cc,
+  λ a. absurd (no_lengths c.args.self.now.least c.args.self.now.left c.args.self.now.room c.args.least c.args.most (elim (cases_lt c.args.self.now.room (6 * c.args.self.now.left)) [
     | inl lt ↦ lt
     | inr le ↦ absurd (c.in_default.ensures (omega (arith, c.from.ensures, le)))
-  ]) a))
+  ]) a),
+)
 
 pub returns-then-self-greatest : goal.returns-then-self-greatest
 returns-then-self-greatest c =
