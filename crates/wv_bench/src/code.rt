@@ -5,7 +5,7 @@ use std::alloc::Global;
 use std::rt::Clock;
 use std::time::{Duration, Instant};
 use wv_base::{Body, Case, Frame, Insn, Items};
-use wv_code::{is_formed, is_start, layout, read_code, write_code};
+use wv_code::{are_formed, is_formed, is_start, layout, read_code, write_code};
 use wv_pool::Pool;
 
 fn switch(alloc: Global) -> Result<Insn> {
@@ -49,10 +49,13 @@ fn read(alloc: Global, content: &[u8], pool: &Pool) -> Result<Body> {
 /// Lays the body out, writes it and reads what was written; answers its length.
 fn there_and_back(alloc: Global, body: &Body) -> Result<usize> {
     let mut pool = Pool::from_entries(alloc, Vec::new(alloc))?;
+    if !are_formed(body.insns.as_slice())? {
+        return Err(anyhow!("instructions that no class file has"));
+    }
+    let layout = layout(alloc, body, &mut pool)?;
     if !is_formed(body, &pool)? {
         return Err(anyhow!("a body that no class file has"));
     }
-    let layout = layout(alloc, body, &mut pool)?;
     let content = write_code(alloc, body, &layout, &mut pool)?;
     let again = read(alloc, content.as_slice(), &pool)?;
     if again.insns.len() != body.insns.len() {
