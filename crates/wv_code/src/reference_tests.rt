@@ -23,6 +23,9 @@ const NOTHING: [u8; 4] = [0, 0, 0, 0];
 /// The place of the first break in a method without parameters, of a content with this code, behind
 /// which the exception table and the attributes stand.
 fn place(alloc: Global, code: &[u8], rest: &[u8]) -> Result<Option<usize>, Fail> {
+    if code.len() > 0x1_0000 {
+        return Err("the code is long".into());
+    }
     let mut content = [0, 0, 0, 0].to_vec(alloc)?;
     content.extend_from_slice(&(code.len() as u32).to_be_bytes())?;
     content.extend_from_slice(code)?;
