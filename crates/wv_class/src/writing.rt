@@ -1,0 +1,56 @@
+//! Writing class files.
+ghost use Rattle.std.specs.Prelude.{IfOk, IfErr};
+ghost use Rattle.wv_class.specs.Formed.{IsFormedClass};
+ghost use Rattle.wv_class.specs.Limits.{IsCause};
+ghost use Rattle.wv_class.specs.Same.{Writes};
+
+use crate::entering::enter_class;
+use crate::limits::{has_long_list, layouts};
+use crate::pool_copy::copied_entries;
+use crate::rest_writing::rest_to_bytes;
+use std::alloc::Global;
+use wv_base::{Bytes, ClassFile, ClassVersion, LimitFault, Memory};
+use wv_pool::{Pool, PoolFault};
+
+/// The magic number (JVM Specification 4.1).
+const MAGIC: [u8; 4] = [0xca, 0xfe, 0xba, 0xbe];
+
+/// The magic number and the version.
+fn head(alloc: Global, version: ClassVersion) -> Result<Bytes, Memory> {
+    let mut out = Bytes::from_slice(alloc, &MAGIC)?;
+    out.extend(&version.minor.to_be_bytes())?;
+    out.extend(&version.major.to_be_bytes())?;
+    Ok(out)
+}
+
+/// The pool as it was read, with the constants that the class names behind it.
+fn full_pool(alloc: Global, class: &ClassFile) -> Result<Pool, LimitFault> {
+    let mut pool = Pool::from_entries(alloc, copied_entries(alloc, class.pool.as_slice())?)?;
+    match enter_class(alloc, class, &mut pool) {
+        Ok(()) => Ok(pool),
+        Err(PoolFault::Full) => Err(LimitFault::PoolLarge),
+        Err(PoolFault::Memory) => Err(LimitFault::Memory),
+    }
+}
+
+/// The bytes of a class file that spell the class (JVM Specification 4): the pool as it was read stays
+/// the front of the written one, and ldc_w stands in place of each ldc whose constant has no number of
+/// one byte. Annotations that stand together in the list stand in one table, and attributes that are
+/// kept come last.
+pub fn write_class(alloc: Global, class: &ClassFile) -> Result<Bytes, LimitFault>
+    // `is_formed` tests it.
+    requires { IsFormedClass class.now }
+    ensures written { IfOk result (Writes class.now) }
+    ensures limit { IfErr result (IsCause class.now) }
+{
+    if has_long_list(class) {
+        return Err(LimitFault::PoolLarge);
+    }
+    let mut pool = full_pool(alloc, class)?;
+    let layouts = layouts(alloc, class, &mut pool)?;
+    let rest = rest_to_bytes(alloc, class, &layouts, &mut pool)?;
+    let mut out = head(alloc, class.version)?;
+    out.extend(pool.write(alloc)?.as_slice())?;
+    out.extend(rest.as_slice())?;
+    Ok(out)
+}
