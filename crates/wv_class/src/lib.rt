@@ -18,3 +18,6 @@ mod writing;
 pub use formed::is_formed;
 pub use reading::read_class;
 pub use writing::write_class;
+
+#[cfg(test)]
+mod reading_tests;

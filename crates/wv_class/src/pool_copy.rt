@@ -5,10 +5,7 @@ use std::alloc::Global;
 use wv_base::{Memory, PoolEntry};
 
 /// Copies of the entries. Their texts are shared.
-pub(crate) fn copied_entries(
-    alloc: Global,
-    entries: &[PoolEntry],
-) -> Result<Vec<PoolEntry>, Memory>
+pub(crate) fn copied_entries(alloc: Global, entries: &[PoolEntry]) -> Result<Vec<PoolEntry>, Memory>
     ensures { IfOk result (λ copies. copies.items ≡ entries.now) }
 {
     let _ = (alloc, entries);

@@ -33,7 +33,9 @@ pub fn read_class(alloc: Global, bytes: &[u8]) -> Result<ClassFile, ClassFault>
     let pool = Pool::from_entries(alloc, pool.into_vec())?;
     let types = Types::of(alloc, &pool)?;
     if let Some(at) = rest_break(alloc, &pool, &types, &rest)? {
-        return Err(ClassFault::Reference { at: behind_pool + at });
+        return Err(ClassFault::Reference {
+            at: behind_pool + at,
+        });
     }
     Ok(class_of(alloc, version, &pool, &types, rest)?)
 }

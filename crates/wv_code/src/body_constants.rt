@@ -90,11 +90,7 @@ fn other_constants(alloc: Global, body: &Body) -> Result<Items<Const>, Memory>
 /// Adds the constants that a body names at the end, in the order in which `layout` and `write_code`
 /// put them into a pool: those of the instructions, of the ranges and of the frames. A pool may hold
 /// each of them.
-pub fn push_body_constants(
-    alloc: Global,
-    body: &Body,
-    out: &mut Items<Const>,
-) -> Result<(), Memory>
+pub fn push_body_constants(alloc: Global, body: &Body, out: &mut Items<Const>) -> Result<(), Memory>
     requires { (pool : List PoolEntry) × IsFormedBody pool body.now }
     ensures constants { OnOk result (out.new ≡ out.old ++ body_constants body.now) }
     ensures allowed { AllByRecursion IsAllowed (body_constants body.now) }
