@@ -1,5 +1,6 @@
 -- The layouts of a class's methods (JVM Specification 4.7.3).
-use Rattle.std.specs.Prelude.{List, AllPairs, Option, Some, None}
+use Rattle.std.specs.Prelude.{List, Option, Some, None}
+use Rattle.std.specs.List.{AllZip}
 use Rattle.wv_base.specs.declared.class_file.PoolEntry.{PoolEntry}
 use Rattle.wv_base.specs.declared.class_file.Body.{Body}
 use Rattle.wv_base.specs.declared.class_file.Member.{Member}
@@ -15,7 +16,7 @@ IsLaid pool (Some body) (Some layout) = IsLayout pool body.insns layout
 IsLaid pool _ _ = ⊥
 
 abbrev pub AreLaid : List PoolEntry → List Member → List (Option CodeLayout) → Type 0
-AreLaid pool methods layouts = AllPairs (λ (m : Member) layout. IsLaid pool m.body layout) methods layouts
+AreLaid pool methods layouts = AllZip (λ (m : Member) layout. IsLaid pool m.body layout) methods layouts
 
 -- the cause of a limit where the pool has all constants
 abbrev pub LayoutsBreak : List PoolEntry → List Member → LimitFault → Type 0

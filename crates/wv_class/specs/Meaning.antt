@@ -1,7 +1,7 @@
 -- The class that a class file means (JVM Specification 4): names in place of pool numbers, bodies with indices in place of
 -- offsets, and annotations of all tables in one list.
-use Rattle.std.specs.Prelude.{◌≡◌, ℕ, List, [], ◌∷◌, ◌++◌, AllPairs, Option, Some, None, Result, Ok, Err}
-use Rattle.std.specs.List.{flat_map}
+use Rattle.std.specs.Prelude.{◌≡◌, ℕ, List, [], ◌∷◌, ◌++◌, Option, Some, None, Result, Ok, Err}
+use Rattle.std.specs.List.{AllZip, flat_map}
 use Rattle.wv_base.specs.declared.class_file.PoolEntry.{PoolEntry}
 use Rattle.wv_base.specs.declared.class_file.Attribute.{Attribute}
 use Rattle.wv_base.specs.declared.class_file.Body.{Body}
@@ -40,9 +40,13 @@ abbrev pub content_exceptions : Content → List ℕ
 content_exceptions (contents.Exceptions numbers) = numbers
 content_exceptions _ = []
 
+abbrev pub content_kept : ℕ → Content → List Attribute
+content_kept name (contents.Other bytes) = record { name = name; content = bytes } ∷ []
+content_kept name _ = []
+
+-- the number of a name that is behind the pool's last is kept as 0, which names nothing either
 abbrev pub kept_in : List PoolEntry → RawAttribute → List Attribute
-kept_in pool record { name; content = contents.Other bytes } = record { name = kept_name pool name; content = bytes } ∷ []
-kept_in pool _ = []
+kept_in pool a = content_kept (kept_name pool a.name) a.content
 
 abbrev pub codes_in : List RawAttribute → List RawBody
 codes_in all = flat_map (λ (a : RawAttribute). content_codes a.content) all
@@ -62,7 +66,7 @@ IsNotesOf pool _ notes = notes ≡ []
 -- and of attributes, those of the first before those of the others
 pub data AreNotesOf (pool : List PoolEntry) : List RawAttribute → List Note → Type 0 where
   none : AreNotesOf pool [] []
-  next : {a : RawAttribute} {all : List RawAttribute} {notes others : List Note} → IsNotesOf pool a.content notes → AreNotesOf pool all others → AreNotesOf pool (a ∷ all) (notes ++ others)
+  next : {a : RawAttribute} {all : List RawAttribute} (notes others : List Note) → IsNotesOf pool a.content notes → AreNotesOf pool all others → AreNotesOf pool (a ∷ all) (notes ++ others)
 
 -- ---- Fields and methods
 
@@ -78,7 +82,7 @@ IsValueIn pool (number ∷ []) (Some value) = constant_of pool number ≡ Some v
 IsValueIn pool _ _ = ⊥
 
 abbrev pub AreClasses : List PoolEntry → List ℕ → List (List ℕ) → Type 0
-AreClasses pool numbers names = AllPairs (λ number name. class_name pool number ≡ Some name) numbers names
+AreClasses pool numbers names = AllZip (λ number name. class_name pool number ≡ Some name) numbers names
 
 -- the member that these mean in the class with this number
 pub record IsMemberOf (pool : List PoolEntry) (class : ℕ) (raw : RawMember) (m : Member) : Type 0 where
@@ -92,7 +96,7 @@ pub record IsMemberOf (pool : List PoolEntry) (class : ℕ) (raw : RawMember) (m
   pub kept : m.kept ≡ flat_map (kept_in pool) raw.attributes
 
 abbrev pub AreMembersOf : List PoolEntry → ℕ → List RawMember → List Member → Type 0
-AreMembersOf pool class raws members = AllPairs (IsMemberOf pool class) raws members
+AreMembersOf pool class raws members = AllZip (IsMemberOf pool class) raws members
 
 -- ---- Classes
 

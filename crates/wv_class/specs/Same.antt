@@ -1,5 +1,6 @@
 -- The same class (our own): what differs at most is the pool, which may be longer, and ldc_w in place of ldc.
-use Rattle.std.specs.Prelude.{◌≡◌, ℕ, List, AllPairs, Option, Some, None}
+use Rattle.std.specs.Prelude.{◌≡◌, ℕ, List, Option, Some, None}
+use Rattle.std.specs.List.{AllZip}
 use Rattle.wv_base.specs.declared.class_file.PoolEntry.{PoolEntry}
 use Rattle.wv_base.specs.declared.class_file.Body.{Body}
 use Rattle.wv_base.specs.declared.class_file.Member.{Member}
@@ -25,7 +26,7 @@ pub record IsSameMember (pool : List PoolEntry) (m other : Member) : Type 0 wher
 -- the same class with a pool that begins with the first one's
 pub record IsSameClass (c other : ClassFile) : Type 0 where
   pub pool : Keeps c.pool other.pool
-  pub methods : AllPairs (IsSameMember other.pool) c.methods other.methods
+  pub methods : AllZip (IsSameMember other.pool) c.methods other.methods
   pub others : other ≡ record c { pool = other.pool; methods = other.methods }
 
 -- the bytes spell the same class

@@ -1,5 +1,5 @@
 -- What is written of a class behind its pool (JVM Specification 4.1), before its pool is.
-use Rattle.std.specs.Prelude.{◌≡◌, ℕ, List, AllPairs, length}
+use Rattle.std.specs.Prelude.{◌≡◌, ℕ, List, length}
 use Rattle.wv_base.specs.declared.class_file.PoolEntry.{PoolEntry}
 use Rattle.wv_base.specs.declared.class_file.Member.{Member}
 use Rattle.wv_base.specs.declared.class_file.ClassFile.{ClassFile}

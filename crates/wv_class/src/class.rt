@@ -9,24 +9,26 @@ ghost use Rattle.wv_class.specs.Meaning.{IsClassOf};
 use crate::raw_class::RawRest;
 use std::alloc::Global;
 use wv_attr::Types;
-use wv_base::{ClassFile, ClassVersion, Memory};
+use wv_base::{ClassFile, ClassVersion, Items, Memory, PoolEntry};
 use wv_pool::Pool;
 
 /// The class that a class file means (JVM Specification 4): names in place of numbers, bodies with
-/// indices in place of offsets, and annotations. Each of its items meets what it must, as
+/// indices in place of offsets, and annotations. `entries` are those of the pool. Each of its items meets what it must, as
 /// `rest_break` shows.
 pub(crate) fn class_of(
     alloc: Global,
     version: ClassVersion,
+    entries: Items<PoolEntry>,
     pool: &Pool,
     types: &Types,
     rest: RawRest,
 ) -> Result<ClassFile, Memory>
+    requires own { entries ≡ pool.now }
     requires spelled { (near : ℕ) × (bytes : List ℕ) × SpellsRest pool.now near rest bytes }
     requires sound { (at : ℕ) → RestBreaks pool.now rest at → ⊥ }
     requires types { AreTypes pool.now types.now }
     ensures { IfOk result (λ c. (raw : RawClass) → raw.version ≡ version → raw.pool ≡ pool.now → raw.rest ≡ rest → IsClassOf raw c) }
 {
-    let _ = (alloc, version, pool, types, rest);
+    let _ = (alloc, version, entries, pool, types, rest);
     Err(Memory)
 }

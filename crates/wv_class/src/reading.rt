@@ -5,6 +5,7 @@ ghost use Rattle.wv_class.specs.Meaning.{Spells, GivesClass, ClassBreaks};
 
 use crate::class::class_of;
 use crate::layout::read_layout;
+use crate::pool_copy::copied_entries;
 use crate::raw_class::RawClass;
 use crate::rest_break::rest_break;
 use std::alloc::Global;
@@ -30,12 +31,13 @@ pub fn read_class(alloc: Global, bytes: &[u8]) -> Result<ClassFile, ClassFault>
     if let Some(at) = first_break(alloc, pool.as_slice())? {
         return Err(ClassFault::Reference { at: 8 + at });
     }
-    let pool = Pool::from_entries(alloc, pool.into_vec())?;
+    let entries = pool;
+    let pool = Pool::from_entries(alloc, copied_entries(alloc, entries.as_slice())?)?;
     let types = Types::of(alloc, &pool)?;
     if let Some(at) = rest_break(alloc, &pool, &types, &rest)? {
         return Err(ClassFault::Reference {
             at: behind_pool + at,
         });
     }
-    Ok(class_of(alloc, version, &pool, &types, rest)?)
+    Ok(class_of(alloc, version, entries, &pool, &types, rest)?)
 }
