@@ -1,0 +1,3 @@
+pub mod PoolBreaks
+pub mod ClassReads
+pub mod Enough

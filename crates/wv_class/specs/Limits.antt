@@ -8,6 +8,7 @@ use Rattle.wv_base.specs.declared.class_file.ClassFile.{ClassFile}
 use Rattle.wv_base.specs.declared.constant.Const.{Const}
 use Rattle.wv_base.specs.declared.fault.LimitFault.{LimitFault}
 use Rattle.wv_base.specs.declared.fault.LimitFault.TheVariants as faults
+use Rattle.wv_pool.specs.References.{IsPool}
 use Rattle.wv_pool.specs.Adding.{AreTooMany, Grows}
 use Rattle.wv_code.specs.declared.code_layout.CodeLayout.{CodeLayout}
 use Rattle.wv_code.specs.Laying.{IsLayout, IsLarge, LeavesFar}
@@ -66,13 +67,22 @@ pub record FirstOf (pool : List PoolEntry) (methods : List Member) (fault : Limi
   pub laid : AllByRecursion (λ (m : Member). HasLayout pool m.body) before
   pub breaks : BreaksLimit pool method.body fault
 
--- with the constants of the class in its pool, the code of one of its methods is the first that passes a limit
-abbrev pub FirstPasses : ClassFile → LimitFault → Type 0
-FirstPasses c fault = (pool : List PoolEntry) × Grows c.pool (class_needs c) pool × FirstOf pool c.methods fault
+-- one of the lists passes 65,535, or the pool would with the constants of the class
+abbrev pub IsTooLong : ClassFile → Type 0
+IsTooLong c = HasLongList c ⊎ AreTooMany c.pool (class_needs c)
+
+-- nothing is too long, and with the constants of the class in its pool the code of one of its methods is the first that
+-- passes a limit
+pub record FirstPasses (c : ClassFile) (fault : LimitFault) : Type 0 where
+  pub short : IsTooLong c → ⊥
+  pub pool : List PoolEntry
+  pub sound : IsPool pool
+  pub grows : Grows c.pool (class_needs c) pool
+  pub first : FirstOf pool c.methods fault
 
 -- the cause of a limit: the pool and the lists come before code
 abbrev pub IsCause : ClassFile → LimitFault → Type 0
-IsCause c faults.PoolLarge = HasLongList c ⊎ AreTooMany c.pool (class_needs c)
+IsCause c faults.PoolLarge = IsTooLong c
 IsCause c faults.CodeLarge = FirstPasses c faults.CodeLarge
 IsCause c faults.BranchFar = FirstPasses c faults.BranchFar
 IsCause c faults.Memory = Unit {0}

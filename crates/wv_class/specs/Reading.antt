@@ -1,5 +1,9 @@
 -- What the readers of a class file's parts answer: a fault is the number of bytes that are left from it on.
-use Rattle.std.specs.Prelude.{◌≡◌, ℕ, List, [], ◌∷◌, ◌++◌, length, Result, Ok, Err}
+use Rattle.std.specs.Prelude.{◌≡◌, ℕ, ◌+◌, List, [], ◌∷◌, ◌++◌, length, Result, Ok, Err}
+use Rattle.wv_base.specs.declared.class_file.PoolEntry.{PoolEntry}
+use Rattle.wv_base.specs.declared.fault.ClassFault.{ClassFault}
+use Rattle.wv_base.specs.declared.fault.ClassFault.TheVariants as faults
+use Rattle.wv_pool.specs.References.{FirstBreaks}
 use Rattle.wv_class.specs.declared.stop.Stop.{Stop}
 use Rattle.wv_class.specs.declared.stop.Stop.TheVariants as stops
 use Rattle.wv_class.specs.Layout.{Begins}
@@ -26,3 +30,9 @@ abbrev pub Reads : {X Y : Type 0} → (X → Y × List ℕ) → (ℕ → Y → L
 Reads view S bytes (Ok x) = Taken S bytes (view x).0 (view x).1
 Reads view S bytes (Err (stops.Left left)) = Stopped S bytes left
 Reads view S bytes (Err stops.Memory) = Unit {0}
+
+-- the cause of a fault in the pool of a class file, which begins at place 8
+abbrev pub PoolBreaks : List PoolEntry → ClassFault → Type 0
+PoolBreaks pool (faults.Layout at) = ⊥
+PoolBreaks pool (faults.Reference at) = (place : ℕ) × FirstBreaks pool place × (at ≡ 8 + place)
+PoolBreaks pool faults.Memory = Unit {0}

@@ -29,6 +29,5 @@ pub(crate) fn class_of(
     requires types { AreTypes pool.now types.now }
     ensures { IfOk result (λ c. (raw : RawClass) → raw.version ≡ version → raw.pool ≡ pool.now → raw.rest ≡ rest → IsClassOf raw c) }
 {
-    let _ = (alloc, version, entries, pool, types, rest);
     Err(Memory)
 }

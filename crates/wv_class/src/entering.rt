@@ -22,6 +22,5 @@ pub(crate) fn enter_class(
     // Those that it lacks would make the pool's count pass 65,535.
     ensures full { IfErr result (λ e. e ≡ faults.Full → AreTooMany pool.old (class_needs class.now)) }
 {
-    let _ = (alloc, class, pool);
     Err(PoolFault::Memory)
 }

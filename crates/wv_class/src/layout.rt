@@ -19,6 +19,5 @@ pub(crate) fn read_layout(alloc: Global, bytes: &[u8]) -> Result<(RawClass, usiz
     ensures only { (c : RawClass) → IsClass c bytes.now → GivesRaw result c }
     ensures fault { IfErr result (LayoutBreaks bytes.now) }
 {
-    let _ = (alloc, bytes);
     Err(ClassFault::Memory)
 }

@@ -17,7 +17,6 @@ use wv_pool::Pool;
 pub(crate) fn has_long_list(class: &ClassFile) -> bool
     ensures { IsTrue result ↔ HasLongList class.now }
 {
-    let _ = class;
     true
 }
 
@@ -35,6 +34,5 @@ pub(crate) fn layouts(
     ensures laid { IfOk result (λ found. AreLaid pool.old class.now.methods found.items) }
     ensures cause { IfErr result (LayoutsBreak pool.old class.now.methods) }
 {
-    let _ = (alloc, class, pool);
     Err(LimitFault::Memory)
 }

@@ -8,6 +8,5 @@ use wv_base::{Memory, PoolEntry};
 pub(crate) fn copied_entries(alloc: Global, entries: &[PoolEntry]) -> Result<Vec<PoolEntry>, Memory>
     ensures { IfOk result (λ copies. copies.items ≡ entries.now) }
 {
-    let _ = (alloc, entries);
     Err(Memory)
 }

@@ -31,6 +31,5 @@ pub(crate) fn rest_to_bytes(
     ensures same { pool.new ≡ pool.old }
     ensures written { IfOk result (WritesRest pool.old class.now) }
 {
-    let _ = (alloc, class, layouts, pool);
     Err(Memory)
 }

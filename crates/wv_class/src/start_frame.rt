@@ -22,6 +22,5 @@ pub(crate) fn start_of(
     // No other frame is.
     ensures only { IfOk result (λ found. (frame : Frame) → StartsWith pool.now class method.now frame → found ≡ Some frame) }
 {
-    let _ = (alloc, pool, class, method);
     Err(Memory)
 }

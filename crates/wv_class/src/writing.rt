@@ -1,7 +1,7 @@
 //! Writing class files.
 ghost use Rattle.std.specs.Prelude.{IfOk, IfErr};
 ghost use Rattle.wv_class.specs.Formed.{IsFormedClass};
-ghost use Rattle.wv_class.specs.Limits.{IsCause};
+ghost use Rattle.wv_class.specs.Limits.{IsTooLong, IsCause};
 ghost use Rattle.wv_class.specs.Same.{Writes};
 
 use crate::entering::enter_class;
@@ -41,6 +41,8 @@ pub fn write_class(alloc: Global, class: &ClassFile) -> Result<Bytes, LimitFault
     // `is_formed` tests it.
     requires { IsFormedClass class.now }
     ensures written { IfOk result (Writes class.now) }
+    // Where a list or the pool is too long, nothing is written.
+    ensures short { IfOk result (λ _. IsTooLong class.now → ⊥) }
     ensures limit { IfErr result (IsCause class.now) }
 {
     if has_long_list(class) {
