@@ -5,6 +5,11 @@ ghost use Rattle.wv_code.specs.Least.{IsLeastOf};
 ghost use Rattle.wv_class.specs.Layout.{SpellsRest};
 ghost use Rattle.wv_class.specs.Breaks.{RestBreaks};
 
+use crate::attribute_break::class_attributes_break;
+use crate::least::{lesser, unless};
+use crate::len::members_len;
+use crate::member_break::{fields_break, methods_break};
+use crate::number_break::{interfaces_break, names_plain_class};
 use crate::raw_class::RawRest;
 use std::alloc::Global;
 use wv_attr::Types;
@@ -23,6 +28,19 @@ pub(crate) fn rest_break(
     requires types { AreTypes pool.now types.now }
     ensures { IfOk result (IsLeastOf (RestBreaks pool.now rest.now)) }
 {
-    let _ = (alloc, pool, types, rest);
-    Err(Memory)
+    let number = rest.class;
+    let class = unless(names_plain_class(pool, number), 2);
+    let superclass = unless(names_plain_class(pool, rest.superclass), 4);
+    let interfaces = interfaces_break(pool, rest.interfaces.as_slice(), 8);
+    let fields = rest.fields.as_slice();
+    let methods = rest.methods.as_slice();
+    let fields_place = 10 + 2 * rest.interfaces.len();
+    let methods_place = fields_place + members_len(fields) + 2;
+    let attributes_place = methods_place + members_len(methods) + 2;
+    let head = lesser(lesser(class, superclass), interfaces);
+    let field = fields_break(alloc, pool, types, number, fields, fields_place)?;
+    let method = methods_break(alloc, pool, types, number, methods, methods_place)?;
+    let attribute =
+        class_attributes_break(pool, types, rest.attributes.as_slice(), attributes_place);
+    Ok(lesser(lesser(head, field), lesser(method, attribute)))
 }
