@@ -2,6 +2,7 @@
 use Rattle.std.proofs.Common.{◌≡◌, ℕ, ◌+◌, ◌-◌, ◌*◌, ◌^◌, ◌<◌, ◌≤◌, List, [], ◌∷◌, ◌++◌, length, take, refl, sym, ap, ◌∙◌, arith}
 use Rattle.std.specs.List.{flat_map, sum_by, AllByRecursion}
 use Rattle.std.proofs.lemmas.List.{length-append, take_all}
+use Rattle.std.proofs.lemmas.List.Sums.{sum_by-cons}
 use Rattle.wv_base.specs.declared.class_file.PoolEntry.{PoolEntry}
 use Rattle.wv_pool.specs.Entries.{number_bytes}
 use Rattle.wv_attr.specs.declared.mark.Mark.{Mark}
@@ -11,6 +12,7 @@ use Rattle.wv_code.specs.declared.raw_body.RawBody.{RawBody}
 use Rattle.wv_code.specs.declared.raw_body.RawAttribute.{RawAttribute as InnerAttribute}
 use Rattle.wv_code.specs.Content.{range_bytes, attribute_bytes, length_bytes, content_bytes, IsContent}
 use Rattle.wv_code.specs.Breaks.{attribute_place}
+use Rattle.wv_code.proofs.Lists.{AllByRecursion-map}
 use Rattle.wv_class.specs.declared.raw_class.Place.{Place}
 use Rattle.wv_class.specs.declared.raw_class.Content.{Content}
 use Rattle.wv_class.specs.declared.raw_class.Content.TheVariants as contents
@@ -19,6 +21,7 @@ use Rattle.wv_class.specs.declared.raw_class.RawMember.{RawMember}
 use Rattle.wv_class.specs.declared.raw_class.RawRest.{RawRest}
 use Rattle.wv_class.specs.Layout.{numbers_bytes, SpellsParts, SpellsLists, SpellsContent, SpellsAttribute, SpellsAll, SpellsTable, SpellsMember, SpellsRest, none, next}
 use Rattle.wv_class.specs.Breaks.{content_len, attribute_len, member_len}
+use Rattle.wv_class.specs.Checking.{IsSpelledContent, IsSpelledAttribute, IsSpelledMember}
 
 -- ---- contents
 
@@ -58,7 +61,7 @@ pub all_spelled : {X : Type 0} (S : ℕ → X → List ℕ → Type 0) (len : X 
     → (near : ℕ) (xs : List X) (bytes : List ℕ) → SpellsAll S near xs bytes → length bytes ≡ sum_by len xs
 all_spelled S len one near [] bytes none = refl
 all_spelled S len one near (x ∷ xs) bytes (next {front = front} {back = back} first rest) =
-    length-append front back ∙ omega (arith, one near x front first, all_spelled S len one (near - length front) xs back rest)
+    length-append front back ∙ omega (arith, one near x front first, all_spelled S len one (near - length front) xs back rest) ∙ sym (sum_by-cons len x xs)
 
 pub table_spelled : {X : Type 0} (S : ℕ → X → List ℕ → Type 0) (len : X → ℕ) → ((near : ℕ) (x : X) (bytes : List ℕ) → S near x bytes → length bytes ≡ len x)
     → (near : ℕ) (xs : List X) (bytes : List ℕ) → SpellsTable S near xs bytes → length bytes ≡ 2 + sum_by len xs
@@ -90,3 +93,22 @@ rest_spelled pool near c bytes h =
     let two = length-append h.fields_are (h.methods_are ++ h.table) in
     let three = length-append h.methods_are h.table in
     ap length h.spelled ∙ omega (arith, fields, methods, table, one, two, three, numbers_len c.interfaces)
+
+-- ---- parts of what is spelled
+
+pub table_each : (pool : List PoolEntry) (place : Place) (near : ℕ) (xs : List RawAttribute) (bytes : List ℕ) → SpellsTable (SpellsAttribute pool place) near xs bytes → AllByRecursion (IsSpelledAttribute pool) xs
+table_each pool place near xs bytes h =
+    AllByRecursion-map (λ a. (near : ℕ) × (bytes : List ℕ) × SpellsAttribute pool place near a bytes) (IsSpelledAttribute pool) xs (λ a k. (place, k.0, k.1, k.2)) (each_spelled (SpellsAttribute pool place) (near - 2) xs h.items h.all)
+
+pub members_each : (pool : List PoolEntry) (place : Place) (near : ℕ) (xs : List RawMember) (bytes : List ℕ) → SpellsTable (SpellsMember pool place) near xs bytes → AllByRecursion (IsSpelledMember pool) xs
+members_each pool place near xs bytes h =
+    AllByRecursion-map (λ m. (near : ℕ) × (bytes : List ℕ) × SpellsMember pool place near m bytes) (IsSpelledMember pool) xs (λ m k. (place, k.0, k.1, k.2)) (each_spelled (SpellsMember pool place) (near - 2) xs h.items h.all)
+
+pub member_attributes : (pool : List PoolEntry) (m : RawMember) → IsSpelledMember pool m → AllByRecursion (IsSpelledAttribute pool) m.attributes
+member_attributes pool m (place, near, bytes, h) = table_each pool place (near - 6) m.attributes h.table h.attributes
+
+pub member_few : (pool : List PoolEntry) (m : RawMember) → IsSpelledMember pool m → length m.attributes < 2 ^ 16
+member_few pool m (place, near, bytes, h) = h.attributes.few
+
+pub attribute_content : (pool : List PoolEntry) (a : RawAttribute) → IsSpelledAttribute pool a → IsSpelledContent pool a.content
+attribute_content pool a (place, near, bytes, h) = (near - 6, h.content, h.short, h.content_is)

@@ -1,3 +1,5 @@
 pub mod Lengths
 pub mod Places
 pub mod StartFrames
+pub mod Values
+pub mod Parts
