@@ -3,3 +3,4 @@ pub mod Places
 pub mod StartFrames
 pub mod Values
 pub mod Parts
+pub mod CodePlaces

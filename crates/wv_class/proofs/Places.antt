@@ -10,13 +10,13 @@ use Rattle.wv_class.specs.Breaks.{InList, InNumbers}
 
 -- ---- from a base on
 
-pub behind_broken : (A : Type 0) (base place : ℕ) {o : Option ℕ} → IsLeastOf (Broken A (base + place)) o → IsLeastOf (Behind base (Broken A place)) o
-behind_broken A base place h = same to from h
+pub behind_broken : (A : Type 0) (base place full : ℕ) {o : Option ℕ} → full ≡ base + place → IsLeastOf (Broken A full) o → IsLeastOf (Behind base (Broken A place)) o
+behind_broken A base place full e h = same to from h
   where
-    to : (n : ℕ) → Broken A (base + place) n → Behind base (Broken A place) n
-    to n k = (place, (refl, k.1), k.0)
+    to : (n : ℕ) → Broken A full n → Behind base (Broken A place) n
+    to n k = (place, (refl, k.1), k.0 ∙ e)
 
-    from : (n : ℕ) → Behind base (Broken A place) n → Broken A (base + place) n
+    from : (n : ℕ) → Behind base (Broken A place) n → Broken A full n
     from n k = (omega (arith, k.1.0, k.2), k.1.1)
 
 pub behind_behind : (P : ℕ → Type 0) (base place : ℕ) {o : Option ℕ} → IsLeastOf (Behind (base + place) P) o → IsLeastOf (Behind base (Behind place P)) o

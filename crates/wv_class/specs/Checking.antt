@@ -4,16 +4,19 @@ use Rattle.std.specs.Ordering.{nat_cmp, ordering_then}
 use Rattle.std.specs.declared.cmp.Ordering.{Ordering}
 use Rattle.std.specs.BTreeSet.{BTreeSet, contains}
 use Rattle.wv_base.specs.declared.class_file.PoolEntry.{PoolEntry}
+use Rattle.wv_base.specs.declared.frame.Frame.{Frame}
 use Rattle.wv_base.specs.declared.constant.Const.TheVariants as constants
 use Rattle.wv_pool.specs.References.{text_of}
 use Rattle.wv_pool.specs.Numbers.{IsLeast}
+use Rattle.wv_code.specs.declared.raw_body.RawBody.{RawBody}
+use Rattle.wv_code.specs.Breaks.{FirstBreak}
 use Rattle.wv_code.specs.Least.{Broken}
 use Rattle.wv_class.specs.declared.raw_class.Place.{Place}
 use Rattle.wv_class.specs.declared.raw_class.Content.{Content}
 use Rattle.wv_class.specs.declared.raw_class.RawAttribute.{RawAttribute}
 use Rattle.wv_class.specs.declared.raw_class.RawMember.{RawMember}
 use Rattle.wv_class.specs.Layout.{SpellsContent, SpellsAttribute, SpellsMember}
-use Rattle.wv_class.specs.Breaks.{IsNamed, IsAgain, IsInitializer, HasItsCode, IsNarrow}
+use Rattle.wv_class.specs.Breaks.{IsNamed, IsAgain, StartsWith, IsInitializer, HasItsCode, IsNarrow}
 
 -- ---- Parts that bytes spell
 
@@ -62,3 +65,7 @@ abbrev pub WholeBreaks : List PoolEntry → List RawMember → RawMember → ℕ
 WholeBreaks pool before m base n =
     (Broken (IsAgain pool before m → ⊥) base n ⊎ Broken (IsInitializer pool m) base n)
     ⊎ (Broken (HasItsCode m) base n ⊎ Broken (IsNarrow pool m) base n)
+
+-- the first break in the code of a method, which starts with some frame
+abbrev pub StartedBreak : List PoolEntry → ℕ → RawMember → RawBody → ℕ → Type 0
+StartedBreak pool class m raw at = (frame : Frame) × StartsWith pool class m frame × FirstBreak pool frame raw at

@@ -1,14 +1,13 @@
 //! The first item of an attribute's content that breaks what it must meet.
 ghost use Rattle.std.specs.Prelude.{◌↔◌, ◌+◌, ◌^◌, ◌<◌, ℕ, List, length, IsTrue, IfOk, ◌⊎◌};
-ghost use Rattle.wv_base.specs.declared.frame.Frame.{Frame};
 ghost use Rattle.wv_attr.specs.Types.{AreTypes};
 ghost use Rattle.wv_attr.specs.Marks.{table_bytes};
 ghost use Rattle.wv_attr.specs.References.{FirstBreaks};
 ghost use Rattle.wv_code.specs.Content.{IsContent};
 ghost use Rattle.wv_code.specs.Breaks.{FirstBreak};
 ghost use Rattle.wv_code.specs.Least.{IsLeastOf, Behind};
-ghost use Rattle.wv_class.specs.Breaks.{FitsField, IsValueOf, StartsWith, PartsBreak, ContentBreaks};
-ghost use Rattle.wv_class.specs.Checking.{IsSmallInt, IsSpelledContent};
+ghost use Rattle.wv_class.specs.Breaks.{FitsField, IsValueOf, PartsBreak, ContentBreaks};
+ghost use Rattle.wv_class.specs.Checking.{IsSmallInt, IsSpelledContent, StartedBreak};
 
 use crate::least::unless;
 use crate::number_break::exceptions_break;
@@ -16,7 +15,7 @@ use crate::raw_class::{Content, RawMember};
 use crate::start_frame::start_of;
 use std::alloc::Global;
 use wv_attr::{Mark, Types};
-use wv_base::{Const, Memory, Name};
+use wv_base::{Const, Frame, Memory, Name};
 use wv_code::{RawBody, constant_at};
 use wv_pool::Pool;
 
@@ -94,6 +93,25 @@ pub(crate) fn parts_break(
     }
 }
 
+/// The first item of code that breaks what it must meet in a method with this start frame, where the
+/// content has place `base`.
+fn body_break(
+    alloc: Global,
+    pool: &Pool,
+    frame: &Frame,
+    raw: &RawBody,
+    base: usize,
+) -> Result<Option<usize>, Memory>
+    requires spelled { (bytes : List ℕ) × (length bytes < 2 ^ 32) × IsContent pool.now raw.now bytes }
+    requires low { base < 2 ^ 63 + 2 ^ 59 }
+    ensures { IfOk result (IsLeastOf (Behind base (FirstBreak pool.now frame.now raw.now))) }
+{
+    match wv_code::first_break(alloc, pool, frame, raw)? {
+        Some(at) => Ok(Some(base + at)),
+        None => Ok(None),
+    }
+}
+
 /// The first item of a method's code that breaks what it must meet, where the content has place
 /// `base`. A method without a start frame is broken elsewhere.
 fn code_break(
@@ -106,13 +124,10 @@ fn code_break(
 ) -> Result<Option<usize>, Memory>
     requires spelled { (bytes : List ℕ) × (length bytes < 2 ^ 32) × IsContent pool.now raw.now bytes }
     requires low { base < 2 ^ 63 + 2 ^ 59 }
-    ensures { IfOk result (IsLeastOf (Behind base (λ at. (frame : Frame) × StartsWith pool.now class method.now frame × FirstBreak pool.now frame raw.now at))) }
+    ensures { IfOk result (IsLeastOf (Behind base (StartedBreak pool.now class method.now raw.now))) }
 {
-    let Some(frame) = start_of(alloc, pool, class, method)? else {
-        return Ok(None);
-    };
-    match wv_code::first_break(alloc, pool, &frame, raw)? {
-        Some(at) => Ok(Some(base + at)),
+    match start_of(alloc, pool, class, method)? {
+        Some(frame) => body_break(alloc, pool, &frame, raw, base),
         None => Ok(None),
     }
 }
