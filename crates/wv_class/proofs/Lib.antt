@@ -1,3 +1,9 @@
 pub mod PoolBreaks
 pub mod ClassReads
 pub mod Enough
+pub mod Lengths
+pub mod Places
+pub mod StartFrames
+pub mod Values
+pub mod Parts
+pub mod CodePlaces

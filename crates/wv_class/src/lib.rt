@@ -1,18 +1,28 @@
 //! Class files, both ways (JVM Specification 4).
 #![tactic(auto)]
 
+mod attribute_break;
 mod class;
+mod content_break;
 mod entering;
+mod flags;
 mod formed;
 mod layout;
+mod least;
+mod len;
 mod limits;
+mod member_break;
+mod member_rules;
+mod number_break;
 mod pool_copy;
 mod raw_class;
 mod reading;
 mod rest_break;
 mod rest_writing;
+mod seen;
 mod start_frame;
 mod stop;
+mod verification_type;
 mod writing;
 
 pub use formed::is_formed;

@@ -1,0 +1,16 @@
+use Rattle.std.proofs.Common.{◌+◌, ◌*◌, get_or}
+use Rattle.wv_code.specs.Breaks.{NamesClass}
+use Rattle.wv_code.specs.Least.{Broken}
+use Rattle.wv_code.proofs.LeastPlaces.{asked, items_more, items_all}
+use Rattle.wv_class.proofs.Places.{numbers_least}
+use Rattle.wv_class.proofs.number_break.exceptions_break.Goals as goal
+
+pub loop-index-preserved : goal.loop-index-preserved
+loop-index-preserved c =
+    items_more (λ k number. Broken (NamesClass c.args.pool.now number) (c.args.base + 2 * k)) c.args.numbers.now c.loop-index.index 0 c.loop-index-test.true c.lesser-found.ensures c.loop-index.invariant
+    (asked (NamesClass c.args.pool.now (get_or c.args.numbers.now c.loop-index.index 0)) c.unless-one.ensures c.names_class.ensures)
+
+pub returns : goal.returns
+returns c =
+    numbers_least c.args.base c.args.numbers.now (NamesClass c.args.pool.now)
+    (items_all (λ k number. Broken (NamesClass c.args.pool.now number) (c.args.base + 2 * k)) c.args.numbers.now c.loop-index.index c.loop-index-test.false c.loop-index.invariant)
