@@ -4,6 +4,7 @@ pub mod Flags
 pub mod StartFrame
 pub mod Breaks
 pub mod Meaning
+pub mod MemberRead
 pub mod Reading
 pub mod Tables
 pub mod Needs
@@ -12,3 +13,4 @@ pub mod Limits
 pub mod Same
 pub mod Laid
 pub mod Writing
+pub mod PoolLayout

@@ -6,10 +6,16 @@ ghost use Rattle.wv_class.specs.Layout.{SpellsRest};
 ghost use Rattle.wv_class.specs.Breaks.{RestBreaks};
 ghost use Rattle.wv_class.specs.Meaning.{IsClassOf};
 
+use crate::attributes_of::code_and_kept;
+use crate::member_of::members_of;
+use crate::names::{class_at, classes_at};
+use crate::notes_of::all_notes;
+use crate::pool_copy::copied_entries;
 use crate::raw_class::RawRest;
+use bitflags::Flags;
 use std::alloc::Global;
 use wv_attr::Types;
-use wv_base::{ClassFile, ClassVersion, Items, Memory, PoolEntry};
+use wv_base::{AccessFlags, ClassFile, ClassVersion, Items, Memory};
 use wv_pool::Pool;
 
 /// The class that a class file means (JVM Specification 4): names in place of numbers, bodies with
@@ -29,6 +35,27 @@ pub(crate) fn class_of(
     requires types { AreTypes pool.now types.now }
     ensures { IfOk result (λ c. (raw : RawClass) → raw.version ≡ version → raw.pool ≡ pool.now → raw.rest ≡ rest → IsClassOf raw c) }
 {
-    let _ = (alloc, version, entries, pool, types, rest);
-    Err(Memory)
+    let RawRest {
+        flags,
+        class,
+        superclass,
+        interfaces,
+        fields,
+        methods,
+        attributes,
+    } = rest;
+    let notes = all_notes(alloc, pool, types, attributes.as_slice())?;
+    let (_, kept) = code_and_kept(alloc, pool, attributes)?;
+    Ok(ClassFile {
+        version,
+        flags: AccessFlags::from_bits_retain(flags),
+        name: class_at(pool, class)?,
+        superclass: class_at(pool, superclass)?,
+        interfaces: classes_at(alloc, pool, interfaces.as_slice())?,
+        fields: members_of(alloc, pool, types, class, fields)?,
+        methods: members_of(alloc, pool, types, class, methods)?,
+        notes,
+        pool: Items::from_vec(copied_entries(alloc, pool.entries())?),
+        kept,
+    })
 }

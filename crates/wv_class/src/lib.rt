@@ -1,18 +1,32 @@
 //! Class files, both ways (JVM Specification 4).
 #![tactic(auto)]
 
+mod attributes_of;
 mod class;
+mod distinct;
 mod entering;
+mod flags;
 mod formed;
+mod formed_field;
+mod formed_method;
+mod formed_names;
+mod formed_notes;
+mod formed_value;
+mod kind;
 mod layout;
 mod limits;
+mod member_of;
+mod names;
+mod notes_of;
 mod pool_copy;
+mod pool_layout;
 mod raw_class;
 mod reading;
 mod rest_break;
 mod rest_writing;
 mod start_frame;
 mod stop;
+mod tables;
 mod writing;
 
 pub use formed::is_formed;
