@@ -1,5 +1,5 @@
 -- The first of the tables into which a list of annotations is divided.
-use Rattle.std.proofs.Common.{◌≡◌, ℕ, zero, suc, ◌+◌, ◌<◌, ◌≤◌, Bool, true, false, List, [], ◌∷◌, length, get_or, take, drop, refl, sym, ap, ◌∙◌, arith, add-one}
+use Rattle.std.proofs.Common.{◌≡◌, ℕ, zero, suc, ◌+◌, ◌<◌, ◌≤◌, Bool, true, false, if◌then◌else◌, List, [], ◌∷◌, length, get_or, take, drop, refl, sym, ap, ◌∙◌, arith, add-one}
 use Rattle.wv_base.specs.declared.note.Note.{Note}
 use Rattle.wv_class.specs.Tables.{follows, with_tables, tables_of}
 
@@ -8,3 +8,41 @@ abbrev pub first_len : List Note → ℕ
 first_len [] = 0
 first_len (note ∷ []) = 1
 first_len (note ∷ next ∷ notes) = if follows note next then suc (first_len (next ∷ notes)) else 1
+
+pub first_some : (note : Note) (notes : List Note) → 0 < first_len (note ∷ notes)
+first_some note [] = omega arith
+first_some note (next ∷ notes) = go (follows note next)
+  where
+    go : (o : Bool) → 0 < (if o then suc (first_len (next ∷ notes)) else 1)
+    go true = omega arith
+    go false = omega arith
+
+step : (note next : Note) (notes : List Note) (o : Bool) (len : ℕ) → follows note next ≡ o → 0 < len → tables_of (next ∷ notes) ≡ take len (next ∷ notes) ∷ tables_of (drop len (next ∷ notes))
+    → tables_of (note ∷ next ∷ notes) ≡ take (if o then suc len else 1) (note ∷ next ∷ notes) ∷ tables_of (drop (if o then suc len else 1) (note ∷ next ∷ notes))
+step note next notes o zero test some whole = absurd (omega arith)
+step note next notes true (suc len) test some whole = ap (with_tables note) whole ∙ rw test refl
+step note next notes false (suc len) test some whole = ap (with_tables note) whole ∙ rw test (ap (λ t. (note ∷ []) ∷ t) (sym whole))
+
+pub first_table : (note : Note) (notes : List Note) → tables_of (note ∷ notes) ≡ take (first_len (note ∷ notes)) (note ∷ notes) ∷ tables_of (drop (first_len (note ∷ notes)) (note ∷ notes))
+first_table note [] = refl
+first_table note (next ∷ notes) = step note next notes (follows note next) (first_len (next ∷ notes)) refl (first_some next notes) (first_table next notes)
+
+-- one annotation more
+pub first_more : (notes : List Note) (last : ℕ) (d e : Note) → last + 1 < length notes → follows (get_or notes last d) (get_or notes (last + 1) e) ≡ true
+    → first_len (drop last notes) ≡ 1 + first_len (drop (last + 1) notes)
+first_more [] last d e lt test = absurd (omega arith)
+first_more (note ∷ []) last d e lt test = absurd (omega arith)
+first_more (note ∷ next ∷ notes) zero d e lt test = rw test refl
+first_more (note ∷ next ∷ notes) (suc last) d e lt test = rw (add-one) (first_more (next ∷ notes) last d e (omega arith) (rw (add-one) at test))
+
+pub first_ends : (notes : List Note) (last : ℕ) (d e : Note) → last + 1 < length notes → follows (get_or notes last d) (get_or notes (last + 1) e) ≡ false → first_len (drop last notes) ≡ 1
+first_ends [] last d e lt test = absurd (omega arith)
+first_ends (note ∷ []) last d e lt test = absurd (omega arith)
+first_ends (note ∷ next ∷ notes) zero d e lt test = rw test refl
+first_ends (note ∷ next ∷ notes) (suc last) d e lt test = first_ends (next ∷ notes) last d e (omega arith) test
+
+pub first_last : (notes : List Note) (last : ℕ) → last + 1 ≡ length notes → first_len (drop last notes) ≡ 1
+first_last [] last e = absurd (omega arith)
+first_last (note ∷ []) zero e = refl
+first_last (note ∷ next ∷ notes) zero e = absurd (omega arith)
+first_last (note ∷ notes) (suc last) e = first_last notes last (omega arith)

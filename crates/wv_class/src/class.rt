@@ -10,17 +10,16 @@ use crate::attributes_of::code_and_kept;
 use crate::member_of::members_of;
 use crate::names::{class_at, classes_at};
 use crate::notes_of::all_notes;
-use crate::pool_copy::copied_entries;
 use crate::raw_class::RawRest;
 use bitflags::Flags;
 use std::alloc::Global;
 use wv_attr::Types;
-use wv_base::{AccessFlags, ClassFile, ClassVersion, Items, Memory};
+use wv_base::{AccessFlags, ClassFile, ClassVersion, Items, Memory, PoolEntry};
 use wv_pool::Pool;
 
 /// The class that a class file means (JVM Specification 4): names in place of numbers, bodies with
-/// indices in place of offsets, and annotations. `entries` are those of the pool. Each of its items meets what it must, as
-/// `rest_break` shows.
+/// indices in place of offsets, and annotations. `entries` are those of the pool. Each of its items
+/// meets what it must, as `rest_break` shows.
 pub(crate) fn class_of(
     alloc: Global,
     version: ClassVersion,
@@ -55,7 +54,7 @@ pub(crate) fn class_of(
         fields: members_of(alloc, pool, types, class, fields)?,
         methods: members_of(alloc, pool, types, class, methods)?,
         notes,
-        pool: Items::from_vec(copied_entries(alloc, pool.entries())?),
+        pool: entries,
         kept,
     })
 }

@@ -1,5 +1,5 @@
 //! Whether names can stand at their places.
-ghost use Rattle.std.specs.Prelude.{◌↔◌, IsTrue, IfOk, ◌×◌};
+ghost use Rattle.std.specs.Prelude.{◌↔◌, IsTrue, IfOk};
 ghost use Rattle.std.specs.List.{AllByRecursion};
 ghost use Rattle.wv_pool.specs.Allowed.{IsShort, IsClassText};
 ghost use Rattle.wv_class.specs.Formed.{IsFormedClassName};

@@ -43,10 +43,9 @@ pub(crate) fn all_notes(
     requires types { AreTypes pool.now types.now }
     ensures { IfOk result (AreNotesOf pool.now attributes.now) }
 {
-    let mut found = Vec::new(alloc);
+    let mut found = Items::new(alloc);
     for attribute in attributes {
-        let mut notes = notes_in(alloc, pool, types, &attribute.content)?.into_vec();
-        found.append(&mut notes)?;
+        found.append(notes_in(alloc, pool, types, &attribute.content)?)?;
     }
-    Ok(Items::from_vec(found))
+    Ok(found)
 }
