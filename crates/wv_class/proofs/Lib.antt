@@ -1,1 +1,2 @@
 pub mod NoteTables
+pub mod MemberKeys

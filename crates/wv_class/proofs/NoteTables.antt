@@ -1,6 +1,11 @@
 -- The first of the tables into which a list of annotations is divided.
 use Rattle.std.proofs.Common.{◌≡◌, ℕ, zero, suc, ◌+◌, ◌<◌, ◌≤◌, Bool, true, false, if◌then◌else◌, List, [], ◌∷◌, length, get_or, take, drop, refl, sym, ap, subst, ◌∙◌, arith, add-one}
+use Rattle.std.specs.Prelude.{◌↔◌, IsTrue, IfOk, Option, Some, Result}
+use Rattle.wv_base.specs.declared.memory.Memory.{Memory}
 use Rattle.wv_base.specs.declared.note.Note.{Note}
+use Rattle.wv_attr.specs.Writing.{AreWritableOf}
+use Rattle.wv_class.specs.declared.raw_class.Place.TheVariants as places
+use Rattle.wv_class.specs.Formed.{IsFormedTableOf, IsFormedTable}
 use Rattle.wv_class.specs.Tables.{follows, with_tables, tables_of}
 
 -- how many stand in the first table
@@ -50,3 +55,12 @@ first_is [] last lt counted ends = absurd (omega arith)
 first_is (note ∷ notes) last lt counted ends =
     let len : first_len (note ∷ notes) ≡ last + 1 = omega (arith, counted, ends) in
     subst (λ (n : ℕ). tables_of (note ∷ notes) ≡ take n (note ∷ notes) ∷ tables_of (drop n (note ∷ notes))) len (first_table note notes)
+
+-- ---- tables of parameters
+
+pub parameter_table : (notes : List Note) (first : Note) (parameter : ℕ) (writable : Result Bool Memory) → 1 ≤ length notes → first ≡ get_or notes 0 first → first.parameter ≡ Some parameter
+    → IfOk writable (λ w. IsTrue w ↔ AreWritableOf 255 notes) → IfOk writable (λ w. IsTrue w ↔ IsFormedTable places.Method notes)
+parameter_table [] first parameter writable some is at h = absurd (omega arith)
+parameter_table (note ∷ notes) first parameter writable some is at h =
+    let here : note.parameter ≡ Some parameter = ap (λ (n : Note). n.parameter) (sym is) ∙ at in
+    subst (λ (o : Option ℕ). IfOk writable (λ w. IsTrue w ↔ IsFormedTableOf places.Method o (note ∷ notes))) (sym here) h
