@@ -13,4 +13,6 @@ pub mod Limits
 pub mod Same
 pub mod Laid
 pub mod Writing
+pub mod FormedMethod
 pub mod PoolLayout
+pub mod FieldValue

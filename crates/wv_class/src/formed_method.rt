@@ -1,10 +1,11 @@
 //! Whether a class file can have a method.
-ghost use Rattle.std.specs.Prelude.{◌≡◌, ◌↔◌, IsTrue, IfOk, None};
+ghost use Rattle.std.specs.Prelude.{◌≡◌, ◌+◌, ◌↔◌, if◌then◌else◌, IsTrue, IfOk};
 ghost use Rattle.std.specs.List.{AllByRecursion};
 ghost use Rattle.wv_base.specs.Names.{is_method_name};
 ghost use Rattle.wv_base.specs.Descriptor.{IsMethodDescriptor};
 ghost use Rattle.wv_pool.specs.Allowed.{IsShort, IsClassText};
-ghost use Rattle.wv_class.specs.Flags.{is_bodiless};
+ghost use Rattle.wv_class.specs.Flags.{is_static, is_bodiless};
+ghost use Rattle.wv_class.specs.FormedMethod.{HasFormedName, HasFormedHead, HasFormedAttributes};
 ghost use Rattle.wv_class.specs.Formed.{IsFormedWidth, IsFormedInitializer, HasFormedBody, IsFormedMethod};
 
 use crate::flags::{is_bodiless, is_static};
@@ -12,13 +13,13 @@ use crate::formed_names::{are_class_texts, is_short};
 use crate::formed_notes::{are_formed_kept, are_formed_notes};
 use crate::raw_class::Place;
 use std::alloc::Global;
-use wv_base::{Member, Memory, is_method_descriptor, is_method_name, parameter_words};
+use wv_base::{AccessFlags, Member, Memory, is_method_descriptor, is_method_name, parameter_words};
 use wv_code::is_formed;
 use wv_pool::Pool;
 
 /// Whether the method has a name and a descriptor.
 fn is_named(method: &Member) -> Result<bool, Memory>
-    ensures { IfOk result (λ is. IsTrue is ↔ ((IsTrue (is_method_name method.now.name) × IsShort method.now.name) × IsMethodDescriptor method.now.descriptor × IsShort method.now.descriptor)) }
+    ensures { IfOk result (λ is. IsTrue is ↔ HasFormedName method.now) }
 {
     Ok(
         is_method_name(&method.name)
@@ -28,13 +29,19 @@ fn is_named(method: &Member) -> Result<bool, Memory>
     )
 }
 
+/// How many words parameters can take behind `this`, which a static method doesn't have.
+fn most_words(flags: AccessFlags) -> usize
+    ensures { result + (if is_static flags.0 then 0 else 1) ≡ 255 }
+{
+    if is_static(flags) { 255 } else { 254 }
+}
+
 /// Whether the parameters, with `this`, take at most 255 words.
 fn is_narrow(method: &Member) -> bool
     ensures { IsTrue result ↔ IsFormedWidth method.now }
 {
-    let most = if is_static(method.flags) { 255 } else { 254 };
     match parameter_words(&method.descriptor) {
-        Some(words) => words <= most,
+        Some(words) => words <= most_words(method.flags),
         None => true,
     }
 }
@@ -60,19 +67,32 @@ fn has_formed_body(pool: &Pool, method: &Member) -> Result<bool, Memory>
     }
 }
 
-fn is_formed_method(alloc: Global, pool: &Pool, method: &Member) -> Result<bool, Memory>
-    ensures { IfOk result (λ is. IsTrue is ↔ IsFormedMethod pool.now method.now) }
+/// Whether the method has a name, a descriptor and flags that fit each other, and no value.
+fn has_formed_head(method: &Member) -> Result<bool, Memory>
+    ensures { IfOk result (λ has. IsTrue has ↔ HasFormedHead method.now) }
 {
     if method.value.is_some() || !is_narrow(method) || !is_formed_initializer(method) {
         return Ok(false);
     }
+    is_named(method)
+}
+
+/// Whether its attributes are such as a method can have.
+fn has_formed_attributes(alloc: Global, pool: &Pool, method: &Member) -> Result<bool, Memory>
+    ensures { IfOk result (λ has. IsTrue has ↔ HasFormedAttributes pool.now method.now) }
+{
     Ok(
-        is_named(method)?
-            && has_formed_body(pool, method)?
+        has_formed_body(pool, method)?
             && are_class_texts(method.throws.as_slice())?
             && are_formed_notes(alloc, Place::Method, method.notes.as_slice())?
             && are_formed_kept(pool.entries(), Place::Method, method.kept.as_slice()),
     )
+}
+
+fn is_formed_method(alloc: Global, pool: &Pool, method: &Member) -> Result<bool, Memory>
+    ensures { IfOk result (λ is. IsTrue is ↔ IsFormedMethod pool.now method.now) }
+{
+    Ok(has_formed_head(method)? && has_formed_attributes(alloc, pool, method)?)
 }
 
 pub(crate) fn are_formed_methods(

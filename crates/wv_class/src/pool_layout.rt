@@ -1,10 +1,10 @@
 //! Whether entries are a pool's.
-ghost use Rattle.std.specs.Prelude.{◌≡◌, ◌↔◌, IsTrue, IfOk};
+ghost use Rattle.std.specs.Prelude.{◌≡◌, ◌↔◌, ℕ, List, IsTrue, IfOk};
 ghost use Rattle.wv_base.specs.Modified.{IsName};
 ghost use Rattle.wv_pool.specs.Entries.{IsEntry, AreSlots, IsLayout};
 ghost use Rattle.wv_pool.specs.Reading.{is_wide};
 ghost use Rattle.wv_pool.specs.References.{IsPool};
-ghost use Rattle.wv_class.specs.PoolLayout.{IsSlot};
+ghost use Rattle.wv_class.specs.PoolLayout.{IsPair, IsSlot};
 
 use crate::formed_names::is_short;
 use std::alloc::Global;
@@ -16,6 +16,74 @@ fn are_units(units: &[u16])
     ensures { IsName units.now }
 {}
 
+/// Whether the entry has two numbers, which are read for their range alone.
+fn is_pair(entry: &PoolEntry) -> bool
+    ensures { IsTrue result ↔ IsPair entry.now }
+{
+    match entry {
+        PoolEntry::Field {
+            class: first,
+            name_and_type: second,
+        }
+        | PoolEntry::Method {
+            class: first,
+            name_and_type: second,
+        }
+        | PoolEntry::InterfaceMethod {
+            class: first,
+            name_and_type: second,
+        }
+        | PoolEntry::NameAndType {
+            name: first,
+            descriptor: second,
+        }
+        | PoolEntry::InvokeDynamic {
+            bootstrap: first,
+            name_and_type: second,
+        } => {
+            let _numbers = (*first, *second);
+            true
+        }
+        _ => false,
+    }
+}
+
+/// Whether an entry that is no text can stand in a pool. Its numbers are read for their range alone.
+fn is_usable(entry: &PoolEntry) -> bool
+    requires { (text : List ℕ) → entry.now ≡ PoolEntry.Utf8 text → ⊥ }
+    ensures { IsTrue result ↔ IsEntry entry.now }
+{
+    match entry {
+        PoolEntry::Integer(value) => {
+            let _value = *value;
+            true
+        }
+        PoolEntry::Float(bits) => {
+            let _bits = *bits;
+            true
+        }
+        PoolEntry::Long(value) => {
+            let _value = *value;
+            true
+        }
+        PoolEntry::Double(bits) => {
+            let _bits = *bits;
+            true
+        }
+        PoolEntry::MethodHandle { kind, reference } => {
+            let _numbers = (*kind, *reference);
+            true
+        }
+        PoolEntry::Class { name: number }
+        | PoolEntry::String { text: number }
+        | PoolEntry::MethodType { descriptor: number } => {
+            let _number = *number;
+            true
+        }
+        _ => is_pair(entry),
+    }
+}
+
 fn is_entry(entry: &PoolEntry) -> Result<bool, Memory>
     ensures { IfOk result (λ is. IsTrue is ↔ IsEntry entry.now) }
 {
@@ -24,8 +92,7 @@ fn is_entry(entry: &PoolEntry) -> Result<bool, Memory>
             are_units(text.units());
             is_short(text)
         }
-        PoolEntry::Unusable => Ok(false),
-        _ => Ok(true),
+        _ => Ok(is_usable(entry)),
     }
 }
 
@@ -72,5 +139,8 @@ pub(crate) fn is_pool(alloc: Global, pool: &[PoolEntry]) -> Result<bool, Memory>
     if !is_layout(pool)? {
         return Ok(false);
     }
-    Ok(first_break(alloc, pool)?.is_none())
+    match first_break(alloc, pool)? {
+        Some(_) => Ok(false),
+        None => Ok(true),
+    }
 }
