@@ -1,7 +1,7 @@
 -- The class that a class file means (JVM Specification 4): names in place of pool numbers, bodies with indices in place of
 -- offsets, and annotations of all tables in one list.
 use Rattle.std.specs.Prelude.{◌≡◌, ℕ, List, [], ◌∷◌, ◌++◌, Option, Some, None, Result, Ok, Err}
-use Rattle.std.specs.List.{flat_map, AllZip}
+use Rattle.std.specs.List.{AllZip, flat_map}
 use Rattle.wv_base.specs.declared.class_file.PoolEntry.{PoolEntry}
 use Rattle.wv_base.specs.declared.class_file.Attribute.{Attribute}
 use Rattle.wv_base.specs.declared.class_file.Body.{Body}
