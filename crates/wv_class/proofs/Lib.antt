@@ -7,3 +7,8 @@ pub mod StartFrames
 pub mod Values
 pub mod Parts
 pub mod CodePlaces
+pub mod NoteTables
+pub mod MemberKeys
+pub mod FieldValues
+pub mod Widths
+pub mod FormedMethods

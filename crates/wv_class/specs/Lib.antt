@@ -4,6 +4,7 @@ pub mod Flags
 pub mod StartFrame
 pub mod Breaks
 pub mod Meaning
+pub mod MemberRead
 pub mod Reading
 pub mod Tables
 pub mod Needs
@@ -13,3 +14,6 @@ pub mod Same
 pub mod Laid
 pub mod Writing
 pub mod Checking
+pub mod FormedMethod
+pub mod PoolLayout
+pub mod FieldValue
