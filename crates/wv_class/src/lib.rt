@@ -13,6 +13,7 @@ mod rest_break;
 mod rest_writing;
 mod start_frame;
 mod stop;
+mod tables;
 mod writing;
 
 pub use formed::is_formed;
