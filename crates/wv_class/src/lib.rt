@@ -6,6 +6,7 @@ mod entering;
 mod formed;
 mod layout;
 mod limits;
+mod needed;
 mod pool_copy;
 mod raw_class;
 mod reading;
