@@ -12,3 +12,14 @@ pub mod MemberKeys
 pub mod FieldValues
 pub mod Widths
 pub mod FormedMethods
+pub mod NoteTables
+pub mod NamedParts
+pub mod Unchanged
+pub mod NeededParts
+pub mod NeededLists
+pub mod Growth
+pub mod AnnotationsPut
+pub mod EnterableMembers
+pub mod ClassPut
+pub mod LongLists
+pub mod Layouts

@@ -8,7 +8,7 @@ use Rattle.wv_base.specs.declared.fault.LimitFault.{LimitFault}
 use Rattle.wv_base.specs.declared.fault.LimitFault.TheVariants as faults
 use Rattle.wv_code.specs.declared.code_layout.CodeLayout.{CodeLayout}
 use Rattle.wv_code.specs.Laying.{IsLayout}
-use Rattle.wv_class.specs.Limits.{FirstOf}
+use Rattle.wv_class.specs.Limits.{BreaksLimit, FirstOf}
 
 abbrev pub IsLaid : List PoolEntry → Option Body → Option CodeLayout → Type 0
 IsLaid pool None None = Unit {0}
@@ -18,7 +18,14 @@ IsLaid pool _ _ = ⊥
 abbrev pub AreLaid : List PoolEntry → List Member → List (Option CodeLayout) → Type 0
 AreLaid pool methods layouts = AllZip (λ (m : Member) layout. IsLaid pool m.body layout) methods layouts
 
--- the cause of a limit where the pool has all constants
+-- the cause of a limit of one method's code where the pool has all constants
+abbrev pub BodyBreaks : List PoolEntry → Option Body → LimitFault → Type 0
+BodyBreaks pool body faults.PoolLarge = ⊥
+BodyBreaks pool body faults.CodeLarge = BreaksLimit pool body faults.CodeLarge
+BodyBreaks pool body faults.BranchFar = BreaksLimit pool body faults.BranchFar
+BodyBreaks pool body faults.Memory = Unit {0}
+
+-- and of all methods' code
 abbrev pub LayoutsBreak : List PoolEntry → List Member → LimitFault → Type 0
 LayoutsBreak pool methods faults.PoolLarge = ⊥
 LayoutsBreak pool methods faults.CodeLarge = FirstOf pool methods faults.CodeLarge

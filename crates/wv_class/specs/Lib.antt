@@ -17,3 +17,4 @@ pub mod Checking
 pub mod FormedMethod
 pub mod PoolLayout
 pub mod FieldValue
+pub mod Enterable

@@ -26,6 +26,7 @@ mod number_break;
 mod member_of;
 mod names;
 mod notes_of;
+mod needed;
 mod pool_copy;
 mod pool_layout;
 mod raw_class;

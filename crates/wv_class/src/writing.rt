@@ -1,7 +1,12 @@
 //! Writing class files.
-ghost use Rattle.std.specs.Prelude.{IfOk, IfErr};
+ghost use Rattle.std.specs.Prelude.{◌≡◌, ◌++◌, IfOk, IfErr};
+ghost use Rattle.wv_pool.specs.Adding.{Grows};
+ghost use Rattle.wv_pool.specs.Entries.{number_bytes};
+ghost use Rattle.wv_pool.specs.References.{IsPool};
 ghost use Rattle.wv_class.specs.Formed.{IsFormedClass};
+ghost use Rattle.wv_class.specs.Layout.{magic};
 ghost use Rattle.wv_class.specs.Limits.{IsTooLong, IsCause};
+ghost use Rattle.wv_class.specs.Needs.{class_needs};
 ghost use Rattle.wv_class.specs.Same.{Writes};
 
 use crate::entering::enter_class;
@@ -16,7 +21,9 @@ use wv_pool::{Pool, PoolFault};
 const MAGIC: [u8; 4] = [0xca, 0xfe, 0xba, 0xbe];
 
 /// The magic number and the version.
-fn head(alloc: Global, version: ClassVersion) -> Result<Bytes, Memory> {
+fn head(alloc: Global, version: ClassVersion) -> Result<Bytes, Memory>
+    ensures { IfOk result (λ out. out ≡ magic ++ (number_bytes version.minor ++ number_bytes version.major)) }
+{
     let mut out = Bytes::from_slice(alloc, &MAGIC)?;
     out.extend(&version.minor.to_be_bytes())?;
     out.extend(&version.major.to_be_bytes())?;
@@ -24,7 +31,12 @@ fn head(alloc: Global, version: ClassVersion) -> Result<Bytes, Memory> {
 }
 
 /// The pool as it was read, with the constants that the class names behind it.
-fn full_pool(alloc: Global, class: &ClassFile) -> Result<Pool, LimitFault> {
+fn full_pool(alloc: Global, class: &ClassFile) -> Result<Pool, LimitFault>
+    requires { IsFormedClass class.now }
+    ensures grown { IfOk result (Grows class.now.pool (class_needs class.now)) }
+    ensures sound { IfOk result IsPool }
+    ensures limit { IfErr result (IsCause class.now) }
+{
     let mut pool = Pool::from_entries(alloc, copied_entries(alloc, class.pool.as_slice())?)?;
     match enter_class(alloc, class, &mut pool) {
         Ok(()) => Ok(pool),
