@@ -1,0 +1,4 @@
+mod Appended
+mod HasParts
+mod NamedAttributes
+pub mod NoteTables

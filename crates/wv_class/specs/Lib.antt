@@ -12,3 +12,4 @@ pub mod Limits
 pub mod Same
 pub mod Laid
 pub mod Writing
+pub mod Appending
