@@ -2,3 +2,4 @@ mod Appended
 mod HasParts
 mod NamedAttributes
 pub mod NoteTables
+mod PutNotes

@@ -1,6 +1,7 @@
 //! Writing annotations.
-ghost use Rattle.std.specs.Prelude.{◌≡◌, ◌++◌, ◌<◌, ◌≤◌, ℕ, List, IfOk, OnOk};
+ghost use Rattle.std.specs.Prelude.{◌≡◌, ◌++◌, ◌<◌, ◌≤◌, ℕ, IfOk, IfErr, OnOk};
 ghost use Rattle.std.specs.List.{AllByRecursion};
+ghost use Rattle.wv_pool.specs.declared.add.PoolFault.TheVariants as faults;
 ghost use Rattle.wv_pool.specs.Numbers.{Named};
 ghost use Rattle.wv_attr.specs.Writing.{AreOrdered};
 ghost use Rattle.wv_code.specs.WritingBody.{HasRoom};
@@ -15,6 +16,21 @@ use wv_attr::{write_notes, write_parameter_notes};
 use wv_base::{Attribute, Bytes, Memory, Note};
 use wv_pool::{Pool, PoolFault};
 
+/// How many parameters there are up to the last that an annotation has.
+fn place_count(table: &[Note]) -> u8
+    requires { AreOrdered 0 255 table.now }
+    ensures ordered { (count : ℕ) → result ≤ count → AreOrdered 0 count table.now }
+    ensures few { result ≤ 255 }
+{
+    let Some(last) = table.last() else {
+        return 0;
+    };
+    match last.parameter {
+        Some(place) => place + 1,
+        None => unreachable!(),
+    }
+}
+
 /// How many lists a table of parameters' annotations has: one for each of the method's parameters, and
 /// one for each place up to the last that an annotation has (JVM Specification 4.7.18).
 fn list_count(table: &[Note], parameters: usize) -> u8
@@ -23,13 +39,13 @@ fn list_count(table: &[Note], parameters: usize) -> u8
     ensures parameters { parameters ≤ 255 → parameters ≤ result }
     ensures few { result ≤ 255 }
 {
-    let parameters = if parameters < 255 { parameters as u8 } else { 255 };
-    match table.last() {
-        Some(Note {
-            parameter: Some(place),
-            ..
-        }) if *place >= parameters => *place + 1,
-        _ => parameters,
+    let places = place_count(table);
+    if parameters <= places as usize {
+        places
+    } else if parameters < 255 {
+        parameters as u8
+    } else {
+        255
     }
 }
 
@@ -45,29 +61,25 @@ fn table_name(note: &Note) -> &'static str
     }
 }
 
-/// The content of a table, which begins with the annotation and whose constants the pool has.
+/// The content of a table that begins with this annotation. The pool has its constants.
 fn table_content(
     alloc: Global,
     first: &Note,
     table: &[Note],
     parameters: usize,
     pool: &mut Pool,
-) -> Result<Bytes, Memory>
+) -> Result<Bytes, PoolFault>
     requires writable { IsWritableOf first.now.parameter table.now }
     requires named { AllByRecursion (Named pool.old) (content_needs first.now.parameter table.now) }
     ensures same { OnOk result (pool.new ≡ pool.old) }
     ensures written { IfOk result (WritesNotes pool.old first.now.visible first.now.parameter table.now) }
+    ensures not_full { IfErr result (λ e. e ≡ faults.Full → ⊥) }
 {
     // The pool is sound: it isn't full, since it lacks nothing.
     let _entries = pool.entries();
-    let written = match first.parameter {
+    match first.parameter {
         None => write_notes(alloc, table, pool),
         Some(_) => write_parameter_notes(alloc, table, list_count(table, parameters), pool),
-    };
-    match written {
-        Ok(content) => Ok(content),
-        Err(PoolFault::Memory) => Err(Memory),
-        Err(PoolFault::Full) => unreachable!(),
     }
 }
 
@@ -87,8 +99,11 @@ fn put_table(
     let [first, ..] = table else {
         unreachable!()
     };
-    let content = table_content(alloc, first, table, parameters, pool)?;
-    put_named(alloc, pool, table_name(first), &content, out)
+    match table_content(alloc, first, table, parameters, pool) {
+        Ok(content) => put_named(alloc, pool, table_name(first), &content, out),
+        Err(PoolFault::Memory) => Err(Memory),
+        Err(PoolFault::Full) => unreachable!(),
+    }
 }
 
 /// Puts the tables of annotations: those that can stand in one table do.
