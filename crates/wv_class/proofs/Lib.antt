@@ -23,3 +23,8 @@ pub mod EnterableMembers
 pub mod ClassPut
 pub mod LongLists
 pub mod Layouts
+mod Appended
+mod HasParts
+mod NamedAttributes
+pub mod NoteTables
+mod PutNotes

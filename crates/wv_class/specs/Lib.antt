@@ -18,3 +18,4 @@ pub mod FormedMethod
 pub mod PoolLayout
 pub mod FieldValue
 pub mod Enterable
+pub mod Appending

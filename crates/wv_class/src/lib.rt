@@ -2,6 +2,7 @@
 #![tactic(auto)]
 
 mod attribute_break;
+mod attribute_writing;
 mod class;
 mod content_break;
 mod attributes_of;
@@ -29,6 +30,10 @@ mod notes_of;
 mod needed;
 mod pool_copy;
 mod pool_layout;
+mod member_writing;
+mod note_writing;
+mod pool_copy;
+mod putting;
 mod raw_class;
 mod reading;
 mod rest_break;
