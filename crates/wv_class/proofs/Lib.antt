@@ -12,7 +12,6 @@ pub mod MemberKeys
 pub mod FieldValues
 pub mod Widths
 pub mod FormedMethods
-pub mod NoteTables
 pub mod NamedParts
 pub mod Unchanged
 pub mod NeededParts
@@ -26,5 +25,4 @@ pub mod Layouts
 mod Appended
 mod HasParts
 mod NamedAttributes
-pub mod NoteTables
 mod PutNotes

@@ -53,14 +53,14 @@ fn is_formed_initializer(method: &Member) -> bool
     if !method.name.is_ascii("<clinit>") {
         return true;
     }
-    is_static(method.flags) && method.descriptor.is_ascii("()V") && !is_bodiless(method.flags)
+    is_static(method.flags.bits()) && method.descriptor.is_ascii("()V") && !is_bodiless(method.flags.bits())
 }
 
 /// Whether the method has a body exactly where it is neither native nor abstract.
 fn has_formed_body(pool: &Pool, method: &Member) -> Result<bool, Memory>
     ensures { IfOk result (λ has. IsTrue has ↔ HasFormedBody pool.now (is_bodiless method.now.flags.0) method.now.body) }
 {
-    let bodiless = is_bodiless(method.flags);
+    let bodiless = is_bodiless(method.flags.bits());
     match &method.body {
         Some(body) => Ok(!bodiless && is_formed(body, pool)?),
         None => Ok(bodiless),
