@@ -1,6 +1,7 @@
 //! Times of parts of the loader, for the figures of docs/PERFORMANCE.md: run by hand.
 #![tactic(auto)]
 
+mod classes;
 mod code;
 mod pool;
 mod resolve;
@@ -17,6 +18,12 @@ fn main(rt: HostRuntime) -> Result<()> {
         [_, what] if what.as_str() == "pool" => pool::time(&rt, ROUNDS),
         [_, what] if what.as_str() == "code" => code::time(&rt, ROUNDS),
         [_, what] if what.as_str() == "resolve" => resolve::time(&rt, ROUNDS),
-        _ => Ok(println!(rt; "usage: wv_bench pool|code|resolve")?),
+        [_, what, folder] if what.as_str() == "classes" => {
+            classes::time(&rt, folder.as_str(), None)
+        }
+        [_, what, folder, out] if what.as_str() == "classes" => {
+            classes::time(&rt, folder.as_str(), Some(out.as_str()))
+        }
+        _ => Ok(println!(rt; "usage: wv_bench pool|code|resolve, or classes FOLDER [OUT]")?),
     }
 }

@@ -12,6 +12,7 @@ use crate::flags::{is_bodiless, is_static};
 use crate::formed_names::{are_class_texts, is_short};
 use crate::formed_notes::{are_formed_kept, are_formed_notes};
 use crate::raw_class::Place;
+use bitflags::Flags;
 use std::alloc::Global;
 use wv_base::{AccessFlags, Member, Memory, is_method_descriptor, is_method_name, parameter_words};
 use wv_code::is_formed;
@@ -33,7 +34,7 @@ fn is_named(method: &Member) -> Result<bool, Memory>
 fn most_words(flags: AccessFlags) -> usize
     ensures { result + (if is_static flags.0 then 0 else 1) ≡ 255 }
 {
-    if is_static(flags) { 255 } else { 254 }
+    if is_static(flags.bits()) { 255 } else { 254 }
 }
 
 /// Whether the parameters, with `this`, take at most 255 words.
