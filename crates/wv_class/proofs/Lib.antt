@@ -26,3 +26,8 @@ mod Appended
 mod HasParts
 mod NamedAttributes
 mod PutNotes
+pub mod Attributes
+pub mod SeenKeys
+pub mod Members
+pub mod Words
+pub mod RestPlaces

@@ -63,7 +63,7 @@ IsSmallInt descriptor = (descriptor ≡ codes "Z") ⊎ ((descriptor ≡ codes "B
 -- the place of a method that breaks what it must meet as a whole
 abbrev pub WholeBreaks : List PoolEntry → List RawMember → RawMember → ℕ → ℕ → Type 0
 WholeBreaks pool before m base n =
-    (Broken (IsAgain pool before m → ⊥) base n ⊎ Broken (IsInitializer pool m) base n)
+    ((n ≡ base) × IsAgain pool before m ⊎ Broken (IsInitializer pool m) base n)
     ⊎ (Broken (HasItsCode m) base n ⊎ Broken (IsNarrow pool m) base n)
 
 -- the first break in the code of a method, which starts with some frame

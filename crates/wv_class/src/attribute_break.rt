@@ -1,20 +1,34 @@
 //! The first item of attributes that breaks what it must meet.
-ghost use Rattle.std.specs.Prelude.{◌≡◌, ◌+◌, ◌^◌, ◌<◌, length, IfOk};
+ghost use Rattle.std.specs.Prelude.{◌≡◌, ◌+◌, ◌^◌, ◌<◌, ◌&&◌, ◌||◌, length, IfOk};
 ghost use Rattle.std.specs.List.{AllByRecursion};
 ghost use Rattle.wv_attr.specs.Types.{AreTypes};
 ghost use Rattle.wv_code.specs.Least.{IsLeastOf, Behind};
-ghost use Rattle.wv_class.specs.Breaks.{attribute_len, InList, PartsBreak, AttributesBreak};
+ghost use Rattle.wv_class.specs.Breaks.{attribute_len, is_value, InList, PartsBreak, AttributesBreak};
 ghost use Rattle.wv_class.specs.Checking.{IsSpelledAttribute};
 
 use crate::content_break::{content_break, parts_break};
 use crate::least::{lesser, unless};
 use crate::len::attribute_len;
 use crate::member_rules::is_value;
-use crate::raw_class::{RawAttribute, RawMember};
+use crate::raw_class::{Content, RawAttribute, RawMember};
 use std::alloc::Global;
 use wv_attr::Types;
 use wv_base::Memory;
 use wv_pool::Pool;
+
+/// Whether this is a ConstantValue behind another.
+fn is_second(seen: bool, content: &Content) -> bool
+    ensures { result ≡ (seen && is_value content.now) }
+{
+    seen && is_value(content)
+}
+
+/// Whether a ConstantValue was seen before or is this content.
+fn sees_value(seen: bool, content: &Content) -> bool
+    ensures { result ≡ (seen || is_value content.now) }
+{
+    seen || is_value(content)
+}
 
 /// The first item of a member's attributes that breaks what it must meet, where the first of them
 /// has place `base`. A field has one ConstantValue at most (JVM Specification 4.7.2).
@@ -37,10 +51,10 @@ pub(crate) fn member_attributes_break(
     let mut place = base;
     for attribute in member.attributes.as_slice() {
         let content = &attribute.content;
-        let again = unless(!(has_value && is_value(content)), place);
+        let again = unless(!is_second(has_value, content), place);
         let inner = content_break(alloc, pool, types, class, member, content, place + 6)?;
         found = lesser(found, lesser(again, inner));
-        has_value = has_value || is_value(content);
+        has_value = sees_value(has_value, content);
         place += attribute_len(attribute);
     }
     Ok(found)

@@ -1,8 +1,9 @@
 //! What fields and methods must meet (JVM Specification 4.5 and 4.6).
-ghost use Rattle.std.specs.Prelude.{◌≡◌, ◌↔◌, IsTrue, Some};
+ghost use Rattle.std.specs.Prelude.{◌≡◌, ◌↔◌, ◌+◌, ◌≤◌, IsTrue, Some, if◌then◌else◌};
 ghost use Rattle.wv_base.specs.Names.{is_unqualified, is_method_name};
 ghost use Rattle.wv_base.specs.Descriptor.{IsFieldDescriptor, IsMethodDescriptor};
 ghost use Rattle.wv_pool.specs.References.{text_of, IsText};
+ghost use Rattle.wv_class.specs.Flags.{is_static};
 ghost use Rattle.wv_class.specs.Breaks.{is_code, is_value, IsInitializer, HasItsCode, IsNarrow};
 
 use crate::flags::{is_abstract, is_bodiless, is_native, is_static};
@@ -99,15 +100,25 @@ pub(crate) fn has_its_code(method: &RawMember) -> bool
     codes == if is_bodiless(method.flags) { 0 } else { 1 }
 }
 
-/// Whether the parameters of a method, with `this`, take no more words than they may (JVM
-/// Specification 4.3.3).
+/// Whether a method's parameters may take so many words beside `this`, which a static method doesn't
+/// have (JVM Specification 4.3.3).
+fn are_few(words: usize, flags: u16) -> bool
+    ensures { IsTrue result ↔ (words + (if is_static flags then 0 else 1) ≤ 255) }
+{
+    if is_static(flags) {
+        words <= MOST_WORDS
+    } else {
+        words < MOST_WORDS
+    }
+}
+
+/// Whether the parameters of a method, with `this`, take no more words than they may.
 pub(crate) fn is_narrow(pool: &Pool, method: &RawMember) -> bool
     ensures { IsTrue result ↔ IsNarrow pool.now method.now }
 {
-    let this = if is_static(method.flags) { 0 } else { 1 };
     match pool.text(method.descriptor) {
         Some(descriptor) => match parameter_words(descriptor) {
-            Some(words) => words <= MOST_WORDS - this,
+            Some(words) => are_few(words, method.flags),
             None => true,
         },
         None => true,

@@ -1,7 +1,7 @@
 //! Which members were there before.
-ghost use Rattle.std.specs.Prelude.{◌≡◌, ◌↔◌, ◌∷◌, ◌++◌, [], List, IsTrue, IfOk, OnOk, IfSome, IfNone};
+ghost use Rattle.std.specs.Prelude.{◌≡◌, ◌↔◌, ◌∷◌, ◌++◌, [], ℕ, List, IsTrue, IfOk, OnOk, IfSome, IfNone};
 ghost use Rattle.wv_class.specs.declared.raw_class.RawMember.{RawMember};
-ghost use Rattle.wv_class.specs.Breaks.{IsAgain};
+ghost use Rattle.wv_class.specs.Breaks.{IsNamed, IsAgain};
 ghost use Rattle.wv_class.specs.Checking.{IsTextNumber, HasKey, HasKeys};
 
 use crate::raw_class::RawMember;
@@ -22,7 +22,7 @@ fn text_number(pool: &Pool, number: u16) -> Result<Option<u16>, Memory>
 /// The least numbers of the member's name and descriptor, if it has both.
 fn key_of(pool: &Pool, member: &RawMember) -> Result<Option<(u16, u16)>, Memory>
     ensures found { IfOk result (λ found. IfSome found (HasKey pool.now member.now)) }
-    ensures none { IfOk result (λ found. IfNone found ((key : _) → HasKey pool.now member.now key → ⊥)) }
+    ensures none { IfOk result (λ found. IfNone found ((name descriptor : List ℕ) → IsNamed pool.now member.now name descriptor → ⊥)) }
 {
     let Some(name) = text_number(pool, member.name)? else {
         return Ok(None);
