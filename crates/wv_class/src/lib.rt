@@ -1,11 +1,17 @@
 //! Class files, both ways (JVM Specification 4).
 #![tactic(auto)]
 
+mod attribute;
+mod attribute_length;
 mod class;
+mod content;
 mod entering;
 mod formed;
+mod kind;
 mod layout;
 mod limits;
+mod member;
+mod number;
 mod pool_copy;
 mod raw_class;
 mod reading;
@@ -19,5 +25,7 @@ pub use formed::is_formed;
 pub use reading::read_class;
 pub use writing::write_class;
 
+#[cfg(test)]
+mod layout_tests;
 #[cfg(test)]
 mod reading_tests;
