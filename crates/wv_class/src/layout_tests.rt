@@ -34,7 +34,7 @@ fn fault(alloc: Global, bytes: &[u8]) -> Result<Option<usize>, Fail> {
 #[test]
 fn the_smallest_class(rt: HostRuntime) -> Result<(), Fail> {
     let (class, behind) = read_layout(rt.alloc(), &SMALLEST)?;
-    assert_eq!(rt; behind, 41);
+    assert_eq!(rt; behind, 43);
     assert_eq!(rt; (class.version.major, class.version.minor), (52, 0));
     assert_eq!(rt; class.pool.len(), 4);
     assert_eq!(rt; (class.rest.class, class.rest.superclass), (1, 3));
