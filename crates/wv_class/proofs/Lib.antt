@@ -1,3 +1,4 @@
 mod Exits
 mod Grammars
 mod Shorts
+mod Times
