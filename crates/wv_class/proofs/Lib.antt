@@ -1,3 +1,4 @@
+mod Allowed
 mod Exits
 mod Grammars
 mod Shorts
