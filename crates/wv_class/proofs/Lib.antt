@@ -1,5 +1,6 @@
 mod Allowed
 mod Exits
 mod Grammars
+mod Lengths
 mod Shorts
 mod Times
