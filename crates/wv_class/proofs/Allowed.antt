@@ -24,7 +24,7 @@ are_back [] back h = h
 are_back (b ∷ front) back h = are_back front back h.1
 
 -- of one length in front of the same bytes
-same_length : (t u p q : List ℕ) → length t ≡ length u → t ++ p ≡ u ++ q → t ≡ u
+pub same_length : (t u p q : List ℕ) → length t ≡ length u → t ++ p ≡ u ++ q → t ≡ u
 same_length t u p q long e = sym (take_at t p (length t) refl) ∙ ap (take (length t)) e ∙ take_at u q (length t) (sym long)
 
 module _ (width : ℕ) (allows : ℕ → Type 0) where

@@ -1,6 +1,9 @@
 mod Allowed
+mod ContentGrammars
 mod Exits
 mod Grammars
 mod Lengths
+mod Numbered
+mod Parts
 mod Shorts
 mod Times

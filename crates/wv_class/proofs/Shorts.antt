@@ -14,7 +14,7 @@ use Rattle.wv_class.proofs.Grammars.{IsGrammar, Then, Was, Alike, then_grammar, 
 abbrev pub IsBytes : List ℕ → Type 0
 IsBytes bytes = (i : ℕ) → get_or bytes i 0 < 256
 
-short_value : (x y : ℕ) (p q : List ℕ) → x < 2 ^ 16 → y < 2 ^ 16 → number_bytes x ++ p ≡ number_bytes y ++ q → x ≡ y
+pub short_value : (x y : ℕ) (p q : List ℕ) → x < 2 ^ 16 → y < 2 ^ 16 → number_bytes x ++ p ≡ number_bytes y ++ q → x ≡ y
 short_value x y p q lt less e = sym (from_be_bytes-to_be_bytes_2 x lt) ∙ ap (λ (z : List ℕ). number (take 2 z)) e ∙ from_be_bytes-to_be_bytes_2 y less
 
 pub short_grammar : IsGrammar SpellsShort
