@@ -5,5 +5,7 @@ mod Grammars
 mod Lengths
 mod Numbered
 mod Parts
+mod PlainContents
 mod Shorts
 mod Times
+mod Widths
