@@ -27,6 +27,13 @@ are_back (b ∷ front) back h = are_back front back h.1
 pub same_length : (t u p q : List ℕ) → length t ≡ length u → t ++ p ≡ u ++ q → t ≡ u
 same_length t u p q long e = sym (take_at t p (length t) refl) ∙ ap (take (length t)) e ∙ take_at u q (length t) (sym long)
 
+-- the bytes before a place and the one that stands there
+pub one_longer : (bytes : List ℕ) (place b : ℕ) (others : List ℕ) → place ≤ length bytes → drop place bytes ≡ b ∷ others → take (place + 1) bytes ≡ take place bytes ++ b ∷ []
+one_longer bytes place b others read e =
+    let all : bytes ≡ take place bytes ++ (b ∷ others) = sym (take-append-drop place bytes) ∙ ap (λ (z : List ℕ). take place bytes ++ z) e in
+    let long : length (take place bytes) ≡ place = length-take-le place bytes read in
+    ap (take (place + 1)) (all ∙ sym (append_assoc (take place bytes) (b ∷ []) others)) ∙ take_at (take place bytes ++ b ∷ []) others (place + 1) (length-append (take place bytes) (b ∷ []) ∙ omega (arith, long))
+
 module _ (width : ℕ) (allows : ℕ → Type 0) where
   pub allowed_grammar : (n : ℕ) → n < 256 ^ width → allows n → IsGrammar (SpellsAllowed width allows)
   allowed_grammar n lt is =
@@ -73,7 +80,7 @@ module _ (width : ℕ) (allows : ℕ → Type 0) where
     begun = started place bytes are n lt is f.begun;
     none = λ b others e begins. elim f.stopped [
       | inl ended ↦ absurd (omega (arith, ended, ap length e, length-drop place bytes))
-      | inr never ↦ never begins.value begins.spelled.allowed (subst (λ (z : List ℕ). BeginsWith width z begins.value) (sym (one_more b others e)) (begins_with (take place bytes ++ b ∷ []) begins.more (length (take place bytes ++ b ∷ [])) begins.value begins.spelled))
+      | inr never ↦ never begins.value begins.spelled.allowed (subst (λ (z : List ℕ). BeginsWith width z begins.value) (sym (one_longer bytes place b others f.read e)) (begins_with (take place bytes ++ b ∷ []) begins.more (length (take place bytes ++ b ∷ [])) begins.value begins.spelled))
     ];
     no_item = λ value text rest e a.
         let long : length bytes ≡ width + length rest = ap length e ∙ length-append text rest ∙ ap (λ (k : ℕ). k + length rest) a.wide in
@@ -88,9 +95,3 @@ module _ (width : ℕ) (allows : ℕ → Type 0) where
               (begins_with (take (place + 1) text) (drop (place + 1) text) (length text) value (subst (λ (z : List ℕ). SpellsAllowed width allows (length text) value z) (sym parts) a)))
         ];
   }
-    where
-      one_more : (b : ℕ) (others : List ℕ) → drop place bytes ≡ b ∷ others → take (place + 1) bytes ≡ take place bytes ++ b ∷ []
-      one_more b others e =
-          let all : bytes ≡ take place bytes ++ (b ∷ others) = sym (take-append-drop place bytes) ∙ ap (λ (z : List ℕ). take place bytes ++ z) e in
-          let long : length (take place bytes) ≡ place = length-take-le place bytes f.read in
-          ap (take (place + 1)) (all ∙ sym (append_assoc (take place bytes) (b ∷ []) others)) ∙ take_at (take place bytes ++ b ∷ []) others (place + 1) (length-append (take place bytes) (b ∷ []) ∙ omega (arith, long))

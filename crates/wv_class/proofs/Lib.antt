@@ -1,5 +1,6 @@
 mod Allowed
 mod ContentGrammars
+mod Cuts
 mod Exits
 mod Grammars
 mod Lengths
