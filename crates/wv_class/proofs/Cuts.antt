@@ -86,7 +86,7 @@ parts_of pool visible near _ t k s = absurd cc
 
 -- the bytes in front of a place, and what they begin
 module _ (gs : List Group) (front : List ℕ) (missing : ℕ) (small : length front + missing < 2 ^ 32) where
-  begins_parts : (k : ℕ) → k ≤ length front → (parts : List Mark) (more : List ℕ) → length (take k front ++ more) ≡ length front + missing → SpellsParts (length (take k front)) gs parts (take k front ++ more) → BeginsParts gs front missing k
+  pub begins_parts : (k : ℕ) → k ≤ length front → (parts : List Mark) (more : List ℕ) → length (take k front ++ more) ≡ length front + missing → SpellsParts (length (take k front)) gs parts (take k front ++ more) → BeginsParts gs front missing k
   begins_parts k le parts more long s =
       let wide : length (take k front) ≡ k = length-take-le k front le in
       record {
@@ -97,13 +97,13 @@ module _ (gs : List Group) (front : List ℕ) (missing : ℕ) (small : length fr
         agrees = ap (take k) (sym s.spelled) ∙ take_at (take k front) more k wide;
       }
 
-  parts_begin : (k : ℕ) → k ≤ length front → (b : BeginsParts gs front missing k) → SpellsParts (length (take k front)) gs b.parts (take k front ++ drop k (table_bytes b.parts))
+  pub parts_begin : (k : ℕ) → k ≤ length front → (b : BeginsParts gs front missing k) → SpellsParts (length (take k front)) gs b.parts (take k front ++ drop k (table_bytes b.parts))
   parts_begin k le b = record {
     follows = nearer_only (length (take k front)) (omega (arith, length-take-le k front le)) b.follows;
     spelled = ap (λ (z : List ℕ). z ++ drop k (table_bytes b.parts)) (sym b.agrees) ∙ take-append-drop k (table_bytes b.parts);
   }
 
-  parts_size : (k : ℕ) → k ≤ length front → (b : BeginsParts gs front missing k) → length (take k front ++ drop k (table_bytes b.parts)) ≡ length front + missing
+  pub parts_size : (k : ℕ) → k ≤ length front → (b : BeginsParts gs front missing k) → length (take k front ++ drop k (table_bytes b.parts)) ≡ length front + missing
   parts_size k le b = ap (λ (z : List ℕ). length (z ++ drop k (table_bytes b.parts))) (sym b.agrees) ∙ ap length (take-append-drop k (table_bytes b.parts)) ∙ b.long
 
 module _ (pool : List PoolEntry) (visible : Bool) (len : ℕ) (bytes : List ℕ) (small : len < 2 ^ 32) (fits : AllowsLength (kinds.Annotations visible) len) where

@@ -1,10 +1,12 @@
 mod Allowed
+mod Attributes
 mod ContentGrammars
 mod Cuts
 mod Exits
 mod Grammars
 mod Lengths
 mod Numbered
+mod ParameterCuts
 mod Parts
 mod PlainContents
 mod Shorts
