@@ -5,6 +5,7 @@ mod Cuts
 mod Exits
 mod Grammars
 mod Lengths
+mod Members
 mod Numbered
 mod ParameterCuts
 mod Parts
