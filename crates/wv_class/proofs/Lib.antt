@@ -4,6 +4,7 @@ mod ContentGrammars
 mod Cuts
 mod Exits
 mod Grammars
+mod Heads
 mod Lengths
 mod Members
 mod Numbered

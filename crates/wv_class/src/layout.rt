@@ -31,7 +31,10 @@ fn pool_at(alloc: Global, bytes: &[u8]) -> Result<(Items<PoolEntry>, &[u8]), Sto
     ensures { Reads (λ x. (x.0, x.1.now)) SpellsPool bytes.now result }
 {
     match wv_pool::read_layout(alloc, bytes) {
-        Ok((entries, len)) => Ok((Items::from_vec(entries), &bytes[len..])),
+        Ok((entries, len)) => {
+            let (_, rest) = bytes.split_at(len.min(bytes.len()));
+            Ok((Items::from_vec(entries), rest))
+        }
         Err(ClassFault::Layout { at }) => Err(Stop::Left(bytes.len() - at)),
         Err(ClassFault::Reference { .. }) => unreachable!(),
         Err(ClassFault::Memory) => Err(Stop::Memory),
