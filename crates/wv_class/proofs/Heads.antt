@@ -1,6 +1,6 @@
 -- What a class file begins with.
-use Rattle.std.proofs.Common.{◌≡◌, ℕ, ◌+◌, ◌-◌, ◌^◌, ◌<◌, ◌≤◌, List, [], ◌∷◌, ◌++◌, length, take, drop, min, Ok, refl, sym, ap, subst, ◌∙◌, append_assoc, inl, inr, arith}
-use Rattle.std.proofs.lemmas.List.{append-nil, length-drop, take-append-drop, take_min}
+use Rattle.std.proofs.Common.{◌≡◌, ℕ, ◌+◌, ◌-◌, ◌^◌, ◌<◌, ◌≤◌, List, [], ◌∷◌, ◌++◌, length, take, drop, Ok, refl, sym, ap, subst, ◌∙◌, append_assoc, inl, inr, arith}
+use Rattle.std.proofs.lemmas.List.{append-nil, length-drop, take-append-drop}
 use Rattle.wv_base.specs.declared.class_file.ClassVersion.{ClassVersion}
 use Rattle.wv_base.specs.declared.class_file.PoolEntry.{PoolEntry}
 use Rattle.wv_pool.specs.Entries.{IsLayout, number_bytes, pool_bytes}
@@ -130,10 +130,3 @@ module _ (bytes : List ℕ) (at : ℕ) (f : IsLayoutFault bytes at) where
         (begins.more, (begins.value, [], s.layout, ap (λ (z : List ℕ). z ++ begins.more) longer ∙ s.spelled ∙ sym (append-nil (pool_bytes begins.value))));
     no_item = λ value text rest e s. f.no_pool (value, rest, s.layout, e ∙ ap (λ (z : List ℕ). z ++ rest) s.spelled);
   }
-
-pub pool_takes : (bytes : List ℕ) (len : ℕ) (pool : List PoolEntry) → IsLayout pool → take len bytes ≡ pool_bytes pool → Taken SpellsPool bytes pool (drop (min len (length bytes)) bytes)
-pool_takes bytes len pool is e = record {
-  text = take (min len (length bytes)) bytes;
-  parts = sym (take-append-drop (min len (length bytes)) bytes);
-  spelled = record { layout = is; spelled = take_min len bytes ∙ e };
-}

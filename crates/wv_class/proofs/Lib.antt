@@ -1,5 +1,6 @@
 mod Allowed
 mod Attributes
+mod Classes
 mod ContentGrammars
 mod Cuts
 mod Exits

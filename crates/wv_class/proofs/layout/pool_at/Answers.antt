@@ -1,0 +1,5 @@
+use Rattle.wv_class.proofs.Heads.{pool_stopped}
+use Rattle.wv_class.proofs.layout.pool_at.Goals as goal
+
+pub returns-in-Err-Layout : goal.returns-in-Err-Layout
+returns-in-Err-Layout c = pool_stopped c.args.bytes.now c.in-Err-Layout.at c.in-Err-Layout.ensures.fault
