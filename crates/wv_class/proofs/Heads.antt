@@ -90,6 +90,15 @@ module _ (number : ℕ) (small : number < 2 ^ 32) (bytes_are : length_bytes numb
   head_takes bytes n rest minor after major end t u v =
       alike_takes head_alike bytes (version_of minor major) end (then_takes (SpellsExactly 4 number) Version exact_grammar bytes n rest (version_of minor major) end t (then_takes SpellsShort Major short_grammar rest minor after (version_of minor major) end u (was_takes (version_of minor) SpellsShort after major end v)))
 
+abbrev pub magic_number : ℕ
+magic_number = 3405691582
+
+pub magic_small : magic_number < 2 ^ 32
+magic_small = omega arith
+
+pub magic_is : length_bytes magic_number ≡ magic
+magic_is = refl
+
 -- ---- the pool
 
 one_pool : (x y : List PoolEntry) (p q : List ℕ) → IsLayout x → IsLayout y → pool_bytes x ++ p ≡ pool_bytes y ++ q → x ≡ y

@@ -1,5 +1,6 @@
 mod Allowed
 mod Attributes
+pub mod ClassFiles
 mod Classes
 mod ContentGrammars
 mod Cuts
