@@ -12,7 +12,7 @@ use Rattle.wv_class.specs.Heads.{SpellsHead, SpellsPool}
 use Rattle.wv_class.specs.Reading.{Taken, Stopped}
 use Rattle.wv_class.proofs.Grammars.{IsGrammar, Then, Was, Alike, then_grammar, was_grammar, was_takes, was_stops, alike_grammar, alike_stops, alike_takes, then_takes, first_stops, second_stops}
 use Rattle.wv_class.proofs.Heads.{magic_number, magic_small, magic_is, head_grammar, pool_grammar}
-use Rattle.wv_class.proofs.Classes.{rest_grammar}
+use Rattle.wv_class.proofs.ClassTexts.{rest_grammar}
 
 abbrev class_of : ClassVersion → List PoolEntry → RawRest → RawClass
 class_of version pool rest = record { version = version; pool = pool; rest = rest }

@@ -32,7 +32,7 @@ use Rattle.wv_class.proofs.Grammars.{IsGrammar}
 use Rattle.wv_class.proofs.Shorts.{short_value}
 use Rattle.wv_class.proofs.Numbered.{numbers_same, numbers_long}
 use Rattle.wv_class.proofs.Allowed.{same_length}
-use Rattle.wv_class.proofs.Parts.{parts_same, parts_full, parts_less}
+use Rattle.wv_class.proofs.ShallowParts.{parts_same, parts_full, parts_less}
 
 -- ---- one content
 

@@ -15,7 +15,7 @@ use Rattle.wv_class.specs.Reading.{Taken, Stopped}
 use Rattle.wv_class.proofs.Grammars.{IsGrammar, Inside, splits, Then, Was, Alike, then_grammar, was_grammar, was_takes, was_stops, alike_grammar, alike_stops, alike_takes, then_takes, first_stops, second_stops}
 use Rattle.wv_class.proofs.Shorts.{short_grammar}
 use Rattle.wv_class.proofs.Allowed.{allowed_grammar, one_longer}
-use Rattle.wv_class.proofs.Widths.{four_is, is_four}
+use Rattle.wv_class.proofs.AllowedNumbers.{four_is, is_four}
 
 -- ---- the magic number and the version
 

@@ -16,7 +16,7 @@ use Rattle.wv_class.specs.Lengths.{AllowsLength}
 use Rattle.wv_class.specs.Contents.{SpellsSized}
 use Rattle.wv_class.specs.Reading.{Taken, Stopped}
 use Rattle.wv_class.proofs.Cuts.{cut_size, cut_stops, begins_parts, parts_begin, parts_size}
-use Rattle.wv_class.proofs.Parts.{parts_less}
+use Rattle.wv_class.proofs.ShallowParts.{parts_less}
 
 lists_of : (pool : List PoolEntry) (visible : Bool) (near : ℕ) (x : Content) (t : List ℕ) → kinds.ParameterAnnotations visible ≡ kind_of x → SpellsContent near pool x t → (parts : List Mark) × SpellsLists near parts t
 lists_of pool visible near (contents.ParameterAnnotations v parts) t k s = (parts, s)

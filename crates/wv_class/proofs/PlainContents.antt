@@ -19,7 +19,7 @@ use Rattle.wv_class.proofs.Shorts.{short_grammar}
 use Rattle.wv_class.proofs.Times.{times_grammar}
 use Rattle.wv_class.proofs.Allowed.{allowed_grammar}
 use Rattle.wv_class.proofs.Numbered.{shorts_are, are_shorts, numbers_long}
-use Rattle.wv_class.proofs.Widths.{two_is, is_two}
+use Rattle.wv_class.proofs.AllowedNumbers.{two_is, is_two}
 
 module _ (pool : List PoolEntry) where
   -- ---- the value of a field

@@ -3,7 +3,7 @@ use Rattle.wv_class.specs.declared.raw_class.Kind.{Kind}
 use Rattle.wv_class.specs.Contents.{SpellsBehindLength}
 use Rattle.wv_class.specs.Reading.{Taken, Stopped}
 use Rattle.wv_class.proofs.Exits.{fails}
-use Rattle.wv_class.proofs.Attributes.{name_stops, content_stops, content_takes}
+use Rattle.wv_class.proofs.AttributeReads.{name_stops, content_stops, content_takes}
 use Rattle.wv_class.proofs.attribute.attribute_at.Goals as goal
 
 pub returns-in_err-name : goal.returns-in_err-name

@@ -3,7 +3,7 @@ use Rattle.wv_class.specs.declared.raw_class.RawAttribute.{RawAttribute}
 use Rattle.wv_class.specs.Layout.{SpellsAttribute}
 use Rattle.wv_class.proofs.Exits.{fails, seen}
 use Rattle.wv_class.proofs.Times.{count_stops, table_reads}
-use Rattle.wv_class.proofs.Attributes.{attribute_grammar}
+use Rattle.wv_class.proofs.AttributeReads.{attribute_grammar}
 use Rattle.wv_class.proofs.attribute.attributes_at.Goals as goal
 
 pub returns-in_err-count : goal.returns-in_err-count

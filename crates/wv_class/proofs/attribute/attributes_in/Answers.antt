@@ -2,7 +2,7 @@ use Rattle.std.proofs.Common.{◌≡◌}
 use Rattle.wv_class.specs.Layout.{SpellsAttribute}
 use Rattle.wv_class.proofs.Exits.{fails}
 use Rattle.wv_class.proofs.Times.{none_taken, one_more, one_stops}
-use Rattle.wv_class.proofs.Attributes.{attribute_grammar}
+use Rattle.wv_class.proofs.AttributeReads.{attribute_grammar}
 use Rattle.wv_class.proofs.attribute.attributes_in.Goals as goal
 
 pub loop-init : goal.loop-init

@@ -1,6 +1,6 @@
 use Rattle.wv_class.specs.declared.raw_class.Content.{Content}
 use Rattle.wv_class.proofs.Exits.{fails, seen}
-use Rattle.wv_class.proofs.Attributes.{length_stops, length_reads, taken_length}
+use Rattle.wv_class.proofs.AttributeReads.{length_stops, length_reads, taken_length}
 use Rattle.wv_class.proofs.attribute.behind_length_at.Goals as goal
 
 pub returns-in_err-len : goal.returns-in_err-len

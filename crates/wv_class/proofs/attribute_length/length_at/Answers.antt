@@ -1,4 +1,4 @@
-use Rattle.wv_class.proofs.Lengths.{some_length}
+use Rattle.wv_class.proofs.KindLengths.{some_length}
 use Rattle.wv_class.proofs.attribute_length.length_at.Goals as goal
 
 pub returns : goal.returns

@@ -1,5 +1,5 @@
 use Rattle.wv_class.proofs.Exits.{fails}
-use Rattle.wv_class.proofs.Classes.{numbers_stop, interfaces_stop, fields_stop, methods_stop, attributes_stop, rest_takes}
+use Rattle.wv_class.proofs.ClassTexts.{numbers_stop, interfaces_stop, fields_stop, methods_stop, attributes_stop, rest_takes}
 use Rattle.wv_class.proofs.layout.rest_at.Goals as goal
 
 pub returns-in_err-head : goal.returns-in_err-head

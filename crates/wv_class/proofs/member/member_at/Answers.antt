@@ -1,5 +1,5 @@
 use Rattle.wv_class.proofs.Exits.{fails}
-use Rattle.wv_class.proofs.Members.{head_stops, attributes_stop, member_takes}
+use Rattle.wv_class.proofs.MemberReads.{head_stops, attributes_stop, member_takes}
 use Rattle.wv_class.proofs.member.member_at.Goals as goal
 
 pub returns-in_err-head : goal.returns-in_err-head

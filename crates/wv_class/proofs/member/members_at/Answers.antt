@@ -3,7 +3,7 @@ use Rattle.wv_class.specs.declared.raw_class.RawMember.{RawMember}
 use Rattle.wv_class.specs.Layout.{SpellsMember}
 use Rattle.wv_class.proofs.Exits.{fails, seen}
 use Rattle.wv_class.proofs.Times.{count_stops, table_reads}
-use Rattle.wv_class.proofs.Members.{member_grammar}
+use Rattle.wv_class.proofs.MemberReads.{member_grammar}
 use Rattle.wv_class.proofs.member.members_at.Goals as goal
 
 pub returns-in_err-count : goal.returns-in_err-count

@@ -2,7 +2,7 @@ use Rattle.std.proofs.Common.{◌≡◌}
 use Rattle.wv_class.specs.Layout.{SpellsMember}
 use Rattle.wv_class.proofs.Exits.{fails}
 use Rattle.wv_class.proofs.Times.{none_taken, one_more, one_stops}
-use Rattle.wv_class.proofs.Members.{member_grammar}
+use Rattle.wv_class.proofs.MemberReads.{member_grammar}
 use Rattle.wv_class.proofs.member.members_in.Goals as goal
 
 pub loop-init : goal.loop-init

@@ -12,7 +12,7 @@ use Rattle.wv_class.specs.Reading.{Taken, Stopped}
 use Rattle.wv_class.proofs.Grammars.{IsGrammar, Then, Was, Alike, then_grammar, was_grammar, was_takes, was_stops, alike_grammar, alike_stops, alike_takes, then_takes, first_stops, second_stops}
 use Rattle.wv_class.proofs.Shorts.{three_grammar}
 use Rattle.wv_class.proofs.Times.{table_grammar}
-use Rattle.wv_class.proofs.Attributes.{attributes_grammar}
+use Rattle.wv_class.proofs.AttributeReads.{attributes_grammar}
 
 -- three numbers in front of other bytes
 pub three_in_front : (a b c : ℕ) (rest : List ℕ) → (number_bytes a ++ (number_bytes b ++ number_bytes c)) ++ rest ≡ number_bytes a ++ (number_bytes b ++ (number_bytes c ++ rest))

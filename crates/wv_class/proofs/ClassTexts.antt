@@ -18,8 +18,8 @@ use Rattle.wv_class.proofs.Grammars.{IsGrammar, Then, Was, Alike, then_grammar, 
 use Rattle.wv_class.proofs.Shorts.{short_grammar, three_grammar}
 use Rattle.wv_class.proofs.Times.{table_grammar}
 use Rattle.wv_class.proofs.Numbered.{numbers_are, are_numbers, numbers_long}
-use Rattle.wv_class.proofs.Attributes.{attributes_grammar}
-use Rattle.wv_class.proofs.Members.{three_in_front, members_grammar}
+use Rattle.wv_class.proofs.AttributeReads.{attributes_grammar}
+use Rattle.wv_class.proofs.MemberReads.{three_in_front, members_grammar}
 use Rattle.wv_class.proofs.Heads.{pool_grammar}
 
 -- ---- behind the pool

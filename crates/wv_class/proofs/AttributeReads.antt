@@ -17,8 +17,8 @@ use Rattle.wv_class.specs.Reading.{Taken, Stopped, Reads}
 use Rattle.wv_class.proofs.Grammars.{IsGrammar, Then, Was, Alike, then_grammar, was_grammar, was_takes, was_stops, alike_grammar, alike_stops, alike_takes, alike_reads, then_takes, first_stops, second_stops, second_reads}
 use Rattle.wv_class.proofs.Shorts.{short_grammar}
 use Rattle.wv_class.proofs.Times.{table_grammar}
-use Rattle.wv_class.proofs.Widths.{four_is, is_four}
-use Rattle.wv_class.proofs.Lengths.{length_grammar}
+use Rattle.wv_class.proofs.AllowedNumbers.{four_is, is_four}
+use Rattle.wv_class.proofs.KindLengths.{length_grammar}
 use Rattle.wv_class.proofs.ContentGrammars.{content_length, sized_grammar}
 
 module _ (pool : List PoolEntry) where
