@@ -1,5 +1,9 @@
 pub mod Kinds
 pub mod Layout
+pub mod Numbers
+pub mod KindLengths
+pub mod Contents
+pub mod Heads
 pub mod Flags
 pub mod StartFrame
 pub mod Breaks

@@ -1,11 +1,14 @@
 //! Class files, both ways (JVM Specification 4).
 #![tactic(auto)]
 
+mod attribute;
 mod attribute_break;
+mod attribute_length;
 mod attribute_writing;
-mod class;
-mod content_break;
 mod attributes_of;
+mod class;
+mod content;
+mod content_break;
 mod distinct;
 mod entering;
 mod flags;
@@ -20,17 +23,19 @@ mod layout;
 mod least;
 mod len;
 mod limits;
+mod member;
 mod member_break;
-mod member_rules;
-mod number_break;
 mod member_of;
+mod member_rules;
+mod member_writing;
 mod names;
-mod notes_of;
 mod needed;
+mod note_writing;
+mod notes_of;
+mod number;
+mod number_break;
 mod pool_copy;
 mod pool_layout;
-mod member_writing;
-mod note_writing;
 mod putting;
 mod raw_class;
 mod reading;
@@ -39,13 +44,16 @@ mod rest_writing;
 mod seen;
 mod start_frame;
 mod stop;
-mod verification_type;
 mod tables;
+mod verification_type;
 mod writing;
 
 pub use formed::is_formed;
 pub use reading::read_class;
 pub use writing::write_class;
+
+#[cfg(test)]
+mod layout_tests;
 
 #[cfg(test)]
 mod reading_tests;
