@@ -45,7 +45,7 @@ fn fits_field(descriptor: &Name, value: &Const) -> bool
 }
 
 /// Whether the number names a value that the field can have (JVM Specification 4.7.2).
-fn is_value_of(pool: &Pool, field: &RawMember, number: u16) -> Result<bool, Memory>
+pub(crate) fn is_value_of(pool: &Pool, field: &RawMember, number: u16) -> Result<bool, Memory>
     ensures { IfOk result (λ holds. IsTrue holds ↔ IsValueOf pool.now field.now number) }
 {
     let Some(descriptor) = pool.text(field.descriptor) else {

@@ -48,4 +48,6 @@ pub use reading::read_class;
 pub use writing::write_class;
 
 #[cfg(test)]
+mod break_tests;
+#[cfg(test)]
 mod reading_tests;

@@ -54,6 +54,6 @@ returns c =
     let fields = rw c.as_slice-fields.ensures at c.members_len.ensures in
     let methods = rw c.as_slice-methods.ensures at c.members_len-2.ensures in
     rest_least pool rest base _ _ _ (omega (arith, c.len.ensures)) (omega (arith, c.len.ensures, fields)) (omega (arith, c.len.ensures, fields, methods)) c.lesser-4.ensures c.lesser-2.ensures c.lesser-3.ensures
-        (head_least pool rest base c.lesser-head.ensures c.lesser.ensures (asked (NamesPlainClass pool rest.class) c.unless-class.ensures c.names_plain_class.ensures)
-        (asked (NamesPlainClass pool rest.superclass) c.unless-superclass.ensures c.names_plain_class-2.ensures) (rw c.as_slice.ensures at c.interfaces_break-interface.ensures))
-        (rw c.as_slice-fields.ensures at c.in_ok-field.ensures) (rw c.as_slice-methods.ensures at c.in_ok-method.ensures) (rw c.as_slice-attributes.ensures at c.class_attributes_break-attribute.ensures)
+    (head_least pool rest base c.lesser-head.ensures c.lesser.ensures (asked (NamesPlainClass pool rest.class) c.unless-class.ensures c.names_plain_class.ensures)
+    (asked (NamesPlainClass pool rest.superclass) c.unless-superclass.ensures c.names_plain_class-2.ensures) (rw c.as_slice.ensures at c.interfaces_break-interface.ensures))
+    (rw c.as_slice-fields.ensures at c.in_ok-field.ensures) (rw c.as_slice-methods.ensures at c.in_ok-method.ensures) (rw c.as_slice-attributes.ensures at c.class_attributes_break-attribute.ensures)
