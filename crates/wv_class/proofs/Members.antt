@@ -13,7 +13,6 @@ use Rattle.wv_class.specs.Breaks as breaks
 use Rattle.wv_class.specs.Checking.{WholeBreaks}
 use Rattle.wv_class.proofs.Places.{list_behind}
 
-
 not_there : IsTrue false → ⊥
 not_there e = absurd cc
 

@@ -45,7 +45,7 @@ fn fits_field(descriptor: &Name, value: &Const) -> bool
 }
 
 /// Whether the number names a value that the field can have (JVM Specification 4.7.2).
-fn is_value_of(pool: &Pool, field: &RawMember, number: u16) -> Result<bool, Memory>
+pub(crate) fn is_value_of(pool: &Pool, field: &RawMember, number: u16) -> Result<bool, Memory>
     ensures { IfOk result (λ holds. IsTrue holds ↔ IsValueOf pool.now field.now number) }
 {
     let Some(descriptor) = pool.text(field.descriptor) else {
@@ -151,9 +151,7 @@ pub(crate) fn content_break(
     match content {
         Content::Code(raw) => code_break(alloc, pool, class, member, raw, base),
         Content::ConstantValue(number) => Ok(unless(is_value_of(pool, member, *number)?, base)),
-        Content::Exceptions(numbers) => {
-            Ok(exceptions_break(pool, numbers.as_slice(), base + 2))
-        }
+        Content::Exceptions(numbers) => { Ok(exceptions_break(pool, numbers.as_slice(), base + 2)) }
         _ => Ok(parts_break(pool, types, content, base)),
     }
 }

@@ -55,5 +55,6 @@ pub use writing::write_class;
 #[cfg(test)]
 mod layout_tests;
 
+mod break_tests;
 #[cfg(test)]
 mod reading_tests;

@@ -15,5 +15,5 @@ returns c =
     let pool = c.args.pool.now in
     let m = c.args.field.now in
     λ before there. field_least pool c.args.class before m c.args.base c.args.again there c.lesser-3.ensures c.lesser.ensures c.lesser-2.ensures c.unless-again.ensures
-        (asked (IsText pool m.name (λ text. IsTrue (is_unqualified text))) c.unless-name.ensures c.has_field_name.ensures) (asked (IsText pool m.descriptor IsFieldDescriptor) c.unless-descriptor.ensures c.has_field_descriptor.ensures)
-        c.in_ok-attributes.ensures
+    (asked (IsText pool m.name (λ text. IsTrue (is_unqualified text))) c.unless-name.ensures c.has_field_name.ensures) (asked (IsText pool m.descriptor IsFieldDescriptor) c.unless-descriptor.ensures c.has_field_descriptor.ensures)
+    c.in_ok-attributes.ensures

@@ -15,5 +15,5 @@ returns c =
     let pool = c.args.pool.now in
     let m = c.args.method.now in
     λ before there. method_least pool c.args.class before m c.args.base c.lesser-3.ensures c.lesser.ensures c.lesser-2.ensures (c.whole_break-whole.ensures before there)
-        (asked (IsText pool m.name (λ text. IsTrue (is_method_name text))) c.unless-name.ensures c.has_method_name.ensures) (asked (IsText pool m.descriptor IsMethodDescriptor) c.unless-descriptor.ensures c.has_method_descriptor.ensures)
-        c.in_ok-attributes.ensures
+    (asked (IsText pool m.name (λ text. IsTrue (is_method_name text))) c.unless-name.ensures c.has_method_name.ensures) (asked (IsText pool m.descriptor IsMethodDescriptor) c.unless-descriptor.ensures c.has_method_descriptor.ensures)
+    c.in_ok-attributes.ensures
