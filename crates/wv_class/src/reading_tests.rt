@@ -22,7 +22,7 @@ enum Answer {
     Reference(usize),
 }
 
-fn answer(alloc: Global, bytes: &[u8]) -> Result<Answer, Fail> {
+fn read(alloc: Global, bytes: &[u8]) -> Result<Answer, Fail> {
     match read_class(alloc, bytes) {
         Ok(_) => Ok(Answer::Read),
         Err(ClassFault::Layout { at }) => Ok(Answer::Layout(at)),
@@ -46,7 +46,7 @@ fn the_smallest_class(rt: HostRuntime) -> Result<(), Fail> {
 fn cut_at_each_length(rt: HostRuntime) -> Result<(), Fail> {
     for cut in 0..SMALLEST.len() {
         let bytes = &SMALLEST[..cut];
-        assert_eq!(rt; answer(rt.alloc(), bytes)?, Answer::Layout(cut), "{cut}");
+        assert_eq!(rt; read(rt.alloc(), bytes)?, Answer::Layout(cut), "{cut}");
     }
     Ok(())
 }
@@ -55,7 +55,7 @@ fn cut_at_each_length(rt: HostRuntime) -> Result<(), Fail> {
 fn a_byte_more(rt: HostRuntime) -> Result<(), Fail> {
     let mut bytes = SMALLEST.to_vec(rt.alloc())?;
     bytes.push(0)?;
-    assert_eq!(rt; answer(rt.alloc(), &bytes)?, Answer::Layout(57));
+    assert_eq!(rt; read(rt.alloc(), &bytes)?, Answer::Layout(57));
     Ok(())
 }
 
@@ -66,7 +66,7 @@ fn an_overlong_name(rt: HostRuntime) -> Result<(), Fail> {
     bytes[15] = 6;
     bytes.extend_from_slice(&[0xc1, 0x85])?;
     bytes.extend_from_slice(&SMALLEST[21..])?;
-    assert_eq!(rt; answer(rt.alloc(), &bytes)?, Answer::Layout(20));
+    assert_eq!(rt; read(rt.alloc(), &bytes)?, Answer::Layout(20));
     Ok(())
 }
 
@@ -77,7 +77,7 @@ fn magic_numbers(rt: HostRuntime) -> Result<(), Fail> {
         let mut bytes = SMALLEST.to_vec(rt.alloc())?;
         bytes[place] = 0;
         assert_eq!(rt;
-            answer(rt.alloc(), &bytes)?,
+            read(rt.alloc(), &bytes)?,
             Answer::Layout(place),
             "{place}"
         );
@@ -96,7 +96,7 @@ fn text(pool: &mut Vec<u8>, text: &str) -> Result<(), Fail> {
 }
 
 /// The first bytes of a class A, with the pool 1 A, 2 Class 1, 3 java/lang/Object, 4 Class 3, 5 f, 6 I,
-/// 7 ()V, 8 Code, 9 ConstantValue, 10 Integer 7, 11 Exceptions, 12 <clinit>, 13 [A, 14 Class 13,
+/// 7 ()V, 8 Code, 9 ConstantValue, 10 Integer 7, 11 Exceptions, 12 <clinit>, 13 [LA;, 14 Class 13,
 /// 15 RuntimeVisibleAnnotations, 16 LA;, 17 a<b, 18 RuntimeVisibleParameterAnnotations, 19 Float 0,
 /// 20 a/b, 21 Kept, 22 String 5, 23 Ljava/lang/String;.
 fn head(alloc: Global) -> Result<Vec<u8>, Fail> {
@@ -109,7 +109,7 @@ fn head(alloc: Global) -> Result<Vec<u8>, Fail> {
         text(&mut out, name)?;
     }
     out.extend_from_slice(&[3, 0, 0, 0, 7])?;
-    for name in ["Exceptions", "<clinit>", "[A"] {
+    for name in ["Exceptions", "<clinit>", "[LA;"] {
         text(&mut out, name)?;
     }
     out.extend_from_slice(&[7, 0, 13])?;
@@ -130,13 +130,13 @@ fn head(alloc: Global) -> Result<Vec<u8>, Fail> {
 }
 
 /// What reading answers on the class with these parts behind the pool; places count from its flags on.
-fn answer_behind(alloc: Global, parts: &[&[u8]]) -> Result<Answer, Fail> {
+fn read_behind(alloc: Global, parts: &[&[u8]]) -> Result<Answer, Fail> {
     let mut bytes = head(alloc)?;
     let base = bytes.len();
     for part in parts {
         bytes.extend_from_slice(part)?;
     }
-    Ok(match answer(alloc, &bytes)? {
+    Ok(match read(alloc, &bytes)? {
         Answer::Read => Answer::Read,
         Answer::Layout(at) => Answer::Layout(at.saturating_sub(base)),
         Answer::Reference(at) => Answer::Reference(at.saturating_sub(base)),
@@ -154,7 +154,7 @@ const ONE: &[u8] = &[0, 1];
 
 fn check(rt: &impl Abort, alloc: Global, cases: &[(&[&[u8]], Answer)]) -> Result<(), Fail> {
     for (parts, want) in cases {
-        assert_eq!(rt; answer_behind(alloc, parts)?, *want, "{parts:?}");
+        assert_eq!(rt; read_behind(alloc, parts)?, *want, "{parts:?}");
     }
     Ok(())
 }
@@ -420,7 +420,7 @@ fn what_is_read(rt: HostRuntime) -> Result<(), Fail> {
         return Err("a body".into());
     };
     assert!(rt; matches!(body.insns.as_slice(), [Insn::Plain { op: 0xb1 }]));
-    assert!(rt; matches!(method.throws.as_slice(), [name] if name.is_ascii("[A")));
+    assert!(rt; matches!(method.throws.as_slice(), [name] if name.is_ascii("[LA;")));
     let [note] = method.notes.as_slice() else {
         return Err("one annotation".into());
     };
