@@ -26,3 +26,5 @@ mod Appended
 mod HasParts
 mod NamedAttributes
 mod PutNotes
+pub mod Attributes
+pub mod Members
