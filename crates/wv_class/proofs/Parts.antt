@@ -59,7 +59,7 @@ field_low pool m field (inr h) = omega (arith, h.0)
 pub first_near : (pool : List PoolEntry) (parts : List Mark) (at : ℕ) → FirstBreaks pool parts at → at ≤ length (table_bytes parts) + 3
 first_near pool parts at h =
     let whole : length (table_bytes parts) ≡ length (table_bytes h.before) + length (table_bytes (h.part ∷ h.after)) =
-        ap (λ (xs : List Mark). length (table_bytes xs)) h.splits ∙ ap length (flat_map-append mark_bytes h.before (h.part ∷ h.after)) ∙ length-append (table_bytes h.before) (table_bytes (h.part ∷ h.after)) in
+    ap (λ (xs : List Mark). length (table_bytes xs)) h.splits ∙ ap length (flat_map-append mark_bytes h.before (h.part ∷ h.after)) ∙ length-append (table_bytes h.before) (table_bytes (h.part ∷ h.after)) in
     omega (arith, h.place, whole, field_low pool h.part h.field h.breaks)
 
 pub marks_found : (pool : List PoolEntry) (parts : List Mark) (base at : ℕ) → FirstBreaks pool parts at → IsLeastOf (Behind base (FirstBreaks pool parts)) (Some (base + at))

@@ -151,9 +151,7 @@ pub(crate) fn content_break(
     match content {
         Content::Code(raw) => code_break(alloc, pool, class, member, raw, base),
         Content::ConstantValue(number) => Ok(unless(is_value_of(pool, member, *number)?, base)),
-        Content::Exceptions(numbers) => {
-            Ok(exceptions_break(pool, numbers.as_slice(), base + 2))
-        }
+        Content::Exceptions(numbers) => { Ok(exceptions_break(pool, numbers.as_slice(), base + 2)) }
         _ => Ok(parts_break(pool, types, content, base)),
     }
 }
