@@ -24,6 +24,7 @@ use wv_base::{
 use wv_pool::Pool;
 
 /// The names of a class, of its superclass and of its interfaces.
+#[derive(Drop)]
 struct Names {
     name: Name,
     superclass: Name,

@@ -56,6 +56,7 @@ fn body_and_kept(
 }
 
 /// What its other attributes mean.
+#[derive(Drop)]
 struct Marks {
     value: Option<Const>,
     throws: Items<Name>,
