@@ -26,5 +26,5 @@ mod Appended
 mod HasParts
 mod NamedAttributes
 mod PutNotes
-pub mod Attributes
-pub mod Members
+pub mod AttributeMeanings
+pub mod MemberMeanings

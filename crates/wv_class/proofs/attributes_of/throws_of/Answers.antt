@@ -1,5 +1,5 @@
 use Rattle.wv_code.specs.Breaks.{NamesClass}
-use Rattle.wv_class.proofs.Attributes.{exceptions_named}
+use Rattle.wv_class.proofs.AttributeMeanings.{exceptions_named}
 use Rattle.wv_class.proofs.attributes_of.throws_of.Goals as goal
 
 pub push_classes-requires : goal.push_classes-requires

@@ -1,4 +1,4 @@
-use Rattle.wv_class.proofs.Attributes.{value_found}
+use Rattle.wv_class.proofs.AttributeMeanings.{value_found}
 use Rattle.wv_class.proofs.attributes_of.value_of.Goals as goal
 
 pub returns-in-ConstantValue : goal.returns-in-ConstantValue

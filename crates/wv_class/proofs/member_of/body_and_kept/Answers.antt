@@ -1,4 +1,4 @@
-use Rattle.wv_class.proofs.Members.{code_ready, body_meant}
+use Rattle.wv_class.proofs.MemberMeanings.{code_ready, body_meant}
 use Rattle.wv_class.proofs.member_of.body_and_kept.Goals as goal
 
 pub body_in-requires : goal.body_in-requires

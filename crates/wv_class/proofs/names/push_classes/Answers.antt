@@ -1,4 +1,4 @@
-use Rattle.wv_class.proofs.Attributes.{classes_more}
+use Rattle.wv_class.proofs.AttributeMeanings.{classes_more}
 use Rattle.wv_class.proofs.names.push_classes.Goals as goal
 
 pub loop-number-preserved : goal.loop-number-preserved

@@ -1,5 +1,5 @@
 use Rattle.wv_class.specs.Meaning.{none}
-use Rattle.wv_class.proofs.Attributes.{notes_more}
+use Rattle.wv_class.proofs.AttributeMeanings.{notes_more}
 use Rattle.wv_class.proofs.notes_of.all_notes.Goals as goal
 
 pub loop-attribute-init : goal.loop-attribute-init

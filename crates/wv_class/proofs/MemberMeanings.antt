@@ -13,7 +13,7 @@ use Rattle.wv_class.specs.declared.raw_class.RawMember.{RawMember}
 use Rattle.wv_class.specs.Breaks.{StartsWith}
 use Rattle.wv_class.specs.Meaning.{codes_in, IsBodyIn, IsMemberOf, AreMembersOf}
 use Rattle.wv_class.specs.MemberRead.{in_list, HasReadCode, IsReadCode, IsBodyOfCode, IsRead}
-use Rattle.wv_class.proofs.Attributes.{all_front, all_back}
+use Rattle.wv_class.proofs.AttributeMeanings.{all_front, all_back}
 
 module _ (pool : List PoolEntry) (class : ℕ) where
   -- ---- Code
