@@ -49,3 +49,5 @@ mod PlainContents
 mod Shorts
 mod Times
 mod Widths
+pub mod AttributeMeanings
+pub mod MemberMeanings

@@ -132,7 +132,7 @@ next_keys old new members i m lt is has fresh updates =
             absurd (differ (sym hit ∙ miss))
       ];
       exact = λ key. updates.0 key ∙ ap (cond (is_key key m) true) (has.exact key) ∙ or_last (list_any (is_key key) (take i members)) (is_key key m) ∙ sym (list_any-append (is_key key) (take i members) (m ∷ []))
-        ∙ ap (list_any (is_key key)) (ap (λ x. take i members ++ x ∷ []) is ∙ sym (take_more members i m lt));
+          ∙ ap (list_any (is_key key)) (ap (λ x. take i members ++ x ∷ []) is ∙ sym (take_more members i m lt));
     }
   where
     differ : true ≡ false → ⊥

@@ -144,8 +144,7 @@ module _ (pool : List PoolEntry) (table : List Note) (first : Note) (some : 1 �
       go rest e =
           let all = subst (λ (t : List Note). AllByRecursion (Named pool) (table_needs t)) e h in
           let content = content_needs first.parameter (first ∷ rest) in
-          let name = needs (constants.Utf8 (table_name first)) in
-          (
+          let name = needs (constants.Utf8 (table_name first)) in (
             subst (λ (t : List Note). AllByRecursion (Named pool) (content_needs first.parameter t)) (sym e) (all_front (Named pool) content name all),
             part_named pool (constants.Utf8 (table_name first)) (all_back (Named pool) content name all),
           )
@@ -162,7 +161,7 @@ module _ (pool : List PoolEntry) (table : List Note) (first : Note) (some : 1 �
       let holds : Holds content = subst (λ (notes : List Note). WritesNotes pool first.visible first.parameter notes content) t.1 h in
       subst (λ (notes : List Note). Appends (WritesTable pool notes) old new) (sym t.1)
       (written_as (WritesNamed pool (table_name first) (λ bytes. bytes ≡ content)) (WritesTable pool (first ∷ t.0)) old new
-        (λ bytes w. content_as pool (table_name first) bytes (λ b. b ≡ content) Holds (λ b e. subst Holds (sym e) holds) w) put)
+      (λ bytes w. content_as pool (table_name first) bytes (λ b. b ≡ content) Holds (λ b e. subst Holds (sym e) holds) w) put)
 
 -- ---- Tables, one behind the other
 

@@ -3,7 +3,7 @@ ghost use Rattle.std.specs.Prelude.{◌≡◌, ◌≤◌, length, IfOk};
 ghost use Rattle.std.specs.List.{flat_map, AllByRecursion};
 ghost use Rattle.wv_code.specs.Body.{kept_name};
 ghost use Rattle.wv_code.specs.Breaks.{NamesClass};
-ghost use Rattle.wv_class.specs.Meaning.{AreClasses, IsValueIn, kept_in, codes_in, values_in, exceptions_in};
+ghost use Rattle.wv_class.specs.Meaning.{AreClasses, IsValueIn, content_codes, kept_in, codes_in, values_in, exceptions_in};
 ghost use Rattle.wv_class.specs.MemberRead.{NamesConstant, in_list};
 
 use crate::names::push_classes;
@@ -56,6 +56,22 @@ fn kept_name(pool: &Pool, name: u16) -> u16
     }
 }
 
+/// The attribute's code, or the attribute as it is kept, if it is.
+fn moved(pool: &Pool, attribute: RawAttribute) -> (Option<RawBody>, Option<Attribute>)
+    ensures code { content_codes attribute.content ≡ in_list result.0 }
+    ensures kept { kept_in pool.now attribute ≡ in_list result.1 }
+{
+    let RawAttribute { name, content } = attribute;
+    match content {
+        Content::Code(raw) => (Some(raw), None),
+        Content::Other(content) => {
+            let name = kept_name(pool, name);
+            (None, Some(Attribute { name, content }))
+        }
+        _ => (None, None),
+    }
+}
+
 /// The code, of which there is one at most, and the attributes that are kept, in order (JVM
 /// Specification 4.7). They are moved.
 pub(crate) fn code_and_kept(
@@ -69,14 +85,13 @@ pub(crate) fn code_and_kept(
     let mut attributes = attributes;
     let mut code = None;
     let mut kept = Vec::new(alloc);
-    while let Some(RawAttribute { name, content }) = attributes.pop() {
-        match content {
-            Content::Code(raw) => code = Some(raw),
-            Content::Other(content) => {
-                let name = kept_name(pool, name);
-                kept.push(Attribute { name, content })?;
-            }
-            _ => {}
+    while let Some(attribute) = attributes.pop() {
+        let (raw, other) = moved(pool, attribute);
+        if raw.is_some() {
+            code = raw;
+        }
+        if let Some(other) = other {
+            kept.push(other)?;
         }
     }
     kept.reverse();

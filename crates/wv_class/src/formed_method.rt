@@ -54,7 +54,9 @@ fn is_formed_initializer(method: &Member) -> bool
     if !method.name.is_ascii("<clinit>") {
         return true;
     }
-    is_static(method.flags.bits()) && method.descriptor.is_ascii("()V") && !is_bodiless(method.flags.bits())
+    is_static(method.flags.bits())
+        && method.descriptor.is_ascii("()V")
+        && !is_bodiless(method.flags.bits())
 }
 
 /// Whether the method has a body exactly where it is neither native nor abstract.

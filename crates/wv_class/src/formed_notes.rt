@@ -25,11 +25,7 @@ fn is_formed_table(alloc: Global, place: Place, notes: &[Note]) -> Result<bool, 
 
 /// Whether the annotations can stand at the place: each of their tables is such as an attribute there
 /// can have (JVM Specification 4.7.16 to 4.7.19).
-pub(crate) fn are_formed_notes(
-    alloc: Global,
-    place: Place,
-    notes: &[Note],
-) -> Result<bool, Memory>
+pub(crate) fn are_formed_notes(alloc: Global, place: Place, notes: &[Note]) -> Result<bool, Memory>
     ensures { IfOk result (λ are. IsTrue are ↔ AreFormedNotes place notes.now) }
 {
     let mut rest = notes;

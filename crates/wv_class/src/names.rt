@@ -46,11 +46,7 @@ pub(crate) fn push_classes(
     Ok(())
 }
 
-pub(crate) fn classes_at(
-    alloc: Global,
-    pool: &Pool,
-    numbers: &[u16],
-) -> Result<Items<Name>, Memory>
+pub(crate) fn classes_at(alloc: Global, pool: &Pool, numbers: &[u16]) -> Result<Items<Name>, Memory>
     requires { AllByRecursion (NamesClass pool.now) numbers.now }
     ensures { IfOk result (AreClasses pool.now numbers.now) }
 {

@@ -24,11 +24,7 @@ fn push_classes(names: &[Name], out: &mut Items<Const>) -> Result<(), Memory>
     Ok(())
 }
 
-fn push_value(
-    alloc: Global,
-    value: &Option<Const>,
-    out: &mut Items<Const>,
-) -> Result<(), Memory>
+fn push_value(alloc: Global, value: &Option<Const>, out: &mut Items<Const>) -> Result<(), Memory>
     ensures { OnOk result (out.new ≡ out.old ++ value_constants value.now) }
 {
     if let Some(value) = value {
@@ -49,11 +45,7 @@ fn push_code(alloc: Global, body: &Option<Body>, out: &mut Items<Const>) -> Resu
     Ok(())
 }
 
-fn push_exceptions(
-    alloc: Global,
-    names: &[Name],
-    out: &mut Items<Const>,
-) -> Result<(), Memory>
+fn push_exceptions(alloc: Global, names: &[Name], out: &mut Items<Const>) -> Result<(), Memory>
     ensures { OnOk result (out.new ≡ out.old ++ exceptions_constants names.now) }
 {
     if names.is_empty() {

@@ -96,9 +96,7 @@ fn put_table(
     ensures same { OnOk result (pool.new ≡ pool.old) }
     ensures written { OnOk result (Appends (WritesTable pool.old table.now) out.old out.new) }
 {
-    let [first, ..] = table else {
-        unreachable!()
-    };
+    let [first, ..] = table else { unreachable!() };
     match table_content(alloc, first, table, parameters, pool) {
         Ok(content) => put_named(alloc, pool, table_name(first), &content, out),
         Err(PoolFault::Memory) => Err(Memory),

@@ -24,11 +24,7 @@ pub(crate) fn put_length(out: &mut Bytes, len: u32) -> Result<(), Memory>
 }
 
 /// Puts the least number of the constant.
-pub(crate) fn put_constant(
-    pool: &Pool,
-    constant: &Const,
-    out: &mut Bytes,
-) -> Result<(), Memory>
+pub(crate) fn put_constant(pool: &Pool, constant: &Const, out: &mut Bytes) -> Result<(), Memory>
     requires { Named pool.now constant.now }
     ensures { OnOk result (Appends (WritesConstant pool.now constant.now) out.old out.new) }
 {

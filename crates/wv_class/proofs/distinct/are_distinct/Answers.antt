@@ -6,9 +6,11 @@ pub returns-then-not-branch : goal.returns-then-not-branch
 returns-then-not-branch c =
     let key = c.in_ok-copy.ensures in
     let other = c.in_ok-copy-2.ensures in
-    let seen : c.in_ok-insert.field-0 ≡ false = search (rules, tests) in
-    ((λ never. cc), λ distinct. absurd (seen_twice c.loop-member.seen c.args.members.now c.loop-member.member-index c.member-item.result c.loop-member-test.true c.member-item.is c.loop-member.invariant
-    (sym (rw (key, other) at c.in_ok-insert.ensures.added) ∙ seen) distinct))
+    let seen : c.in_ok-insert.field-0 ≡ false = search (rules, tests) in (
+      (λ never. cc),
+      λ distinct. absurd (seen_twice c.loop-member.seen c.args.members.now c.loop-member.member-index c.member-item.result c.loop-member-test.true c.member-item.is c.loop-member.invariant
+          (sym (rw (key, other) at c.in_ok-insert.ensures.added) ∙ seen) distinct),
+    )
 
 pub loop-member-preserved : goal.loop-member-preserved
 loop-member-preserved c =

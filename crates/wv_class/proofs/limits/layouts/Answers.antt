@@ -16,7 +16,7 @@ layout_of-requires-clause-named c =
     let within = rw c.as_slice-method-items.ensures at c.loop-method-test.true in
     let is = rw c.as_slice-method-items.ensures at c.method-item.is in
     let needs =
-        AllByRecursion-at (λ (m : Member). AllByRecursion (Named c.args.pool.now) (member_needs m)) class.methods l.method-index c.method-item.result within (class_methods (Named c.args.pool.now) class c.requires.named) in
+    AllByRecursion-at (λ (m : Member). AllByRecursion (Named c.args.pool.now) (member_needs m)) class.methods l.method-index c.method-item.result within (class_methods (Named c.args.pool.now) class c.requires.named) in
     let own = subst (λ (m : Member). AllByRecursion (Named c.args.pool.now) (member_needs m)) (sym is) needs in
     rw l.invariant.same (code_all (Named c.args.pool.now) c.method-item.result own)
 

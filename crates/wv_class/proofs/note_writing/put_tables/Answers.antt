@@ -18,5 +18,5 @@ loop-rest-preserved c = record {
   put =
       rw c.split_at.ensures.back
       (next_put c.args.pool.now c.args.notes.now c.loop-rest.rest.now c.args.out.now c.loop-rest.out c.first_table_len.result c.first_table_len.ensures.first c.loop-rest.invariant.put c.put_table.new.out
-        (rw (c.split_at.ensures.front, c.loop-rest.invariant.same) at c.in_ok-put_table.ensures.written));
+      (rw (c.split_at.ensures.front, c.loop-rest.invariant.same) at c.in_ok-put_table.ensures.written));
 }

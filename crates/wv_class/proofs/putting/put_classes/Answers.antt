@@ -15,6 +15,6 @@ returns c =
     let count = number_bytes (length names) in
     on_ok_weaker c.put_each_class.result
     (both_appended (λ bytes. bytes ≡ count) (WritesEach (WritesClassName pool) names) (WritesClasses pool names) old middle new
-      (λ a b is each. record { few = c.requires.few; numbers = b; each = each; spelled = ap (λ t. t ++ b) is })
-      (record { bytes = count; written = refl; longer = c.in_ok-put_number.ensures }))
+    (λ a b is each. record { few = c.requires.few; numbers = b; each = each; spelled = ap (λ t. t ++ b) is })
+    (record { bytes = count; written = refl; longer = c.in_ok-put_number.ensures }))
     c.put_each_class.ensures
