@@ -53,8 +53,10 @@ pub use reading::read_class;
 pub use writing::write_class;
 
 #[cfg(test)]
+mod break_tests;
+
+#[cfg(test)]
 mod layout_tests;
 
-mod break_tests;
 #[cfg(test)]
 mod reading_tests;
