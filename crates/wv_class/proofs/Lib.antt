@@ -9,3 +9,4 @@ pub mod EnterableMembers
 pub mod ClassPut
 pub mod LongLists
 pub mod Layouts
+pub mod WrittenClass
