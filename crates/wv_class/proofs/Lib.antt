@@ -51,3 +51,4 @@ mod Times
 mod Widths
 pub mod AttributeMeanings
 pub mod MemberMeanings
+pub mod WrittenClass

@@ -1,5 +1,5 @@
 //! Writing class files.
-ghost use Rattle.std.specs.Prelude.{◌≡◌, ◌++◌, IfOk, IfErr};
+ghost use Rattle.std.specs.Prelude.{◌≡◌, ◌^◌, ◌<◌, ◌++◌, IfOk, IfErr};
 ghost use Rattle.wv_pool.specs.Adding.{Grows};
 ghost use Rattle.wv_pool.specs.Entries.{number_bytes};
 ghost use Rattle.wv_pool.specs.References.{IsPool};
@@ -22,7 +22,8 @@ const MAGIC: [u8; 4] = [0xca, 0xfe, 0xba, 0xbe];
 
 /// The magic number and the version.
 fn head(alloc: Global, version: ClassVersion) -> Result<Bytes, Memory>
-    ensures { IfOk result (λ out. out ≡ magic ++ (number_bytes version.minor ++ number_bytes version.major)) }
+    ensures fits { (version.minor < 2 ^ 16) × (version.major < 2 ^ 16) }
+    ensures bytes { IfOk result (λ out. out ≡ magic ++ (number_bytes version.minor ++ number_bytes version.major)) }
 {
     let mut out = Bytes::from_slice(alloc, &MAGIC)?;
     out.extend(&version.minor.to_be_bytes())?;
@@ -33,12 +34,16 @@ fn head(alloc: Global, version: ClassVersion) -> Result<Bytes, Memory>
 /// The pool as it was read, with the constants that the class names behind it.
 fn full_pool(alloc: Global, class: &ClassFile) -> Result<Pool, LimitFault>
     requires { IsFormedClass class.now }
+    ensures sound { IfOk result IsPool }
     ensures grown { IfOk result (Grows class.now.pool (class_needs class.now)) }
     ensures sound { IfOk result IsPool }
     ensures limit { IfErr result (IsCause class.now) }
 {
     let mut pool = Pool::from_entries(alloc, copied_entries(alloc, class.pool.as_slice())?)?;
-    match enter_class(alloc, class, &mut pool) {
+    let entered = enter_class(alloc, class, &mut pool);
+    // In a pool each number names what its place needs.
+    let _entries = pool.entries();
+    match entered {
         Ok(()) => Ok(pool),
         Err(PoolFault::Full) => Err(LimitFault::PoolLarge),
         Err(PoolFault::Memory) => Err(LimitFault::Memory),
