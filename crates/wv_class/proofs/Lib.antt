@@ -1,54 +1,54 @@
-pub mod PoolBreaks
-pub mod ClassReads
-pub mod Enough
-pub mod Lengths
-pub mod Places
-pub mod StartFrames
-pub mod Values
-pub mod Parts
-pub mod CodePlaces
-pub mod NoteTables
-pub mod MemberKeys
-pub mod FieldValues
-pub mod Widths
-pub mod FormedMethods
-pub mod NamedParts
-pub mod Unchanged
-pub mod NeededParts
-pub mod NeededLists
-pub mod Growth
+pub mod Allowed
+pub mod AllowedNumbers
 pub mod AnnotationsPut
-pub mod EnterableMembers
-pub mod ClassPut
-pub mod LongLists
-pub mod Layouts
-mod Appended
-mod HasParts
-mod NamedAttributes
-mod PutNotes
-pub mod Attributes
-pub mod SeenKeys
-pub mod Members
-pub mod Words
-pub mod RestPlaces
-mod Allowed
-mod Attributes
-pub mod ClassFiles
-mod Classes
-mod ContentGrammars
-mod Cuts
-mod Exits
-mod Grammars
-mod Heads
-mod Lengths
-mod Members
-mod Numbered
-mod ParameterCuts
-mod Parts
-mod PlainContents
-mod Shorts
-mod Times
-mod Widths
+pub mod Appended
 pub mod AttributeMeanings
+pub mod AttributeReads
+pub mod Attributes
+pub mod ClassFiles
+pub mod ClassPut
+pub mod ClassReads
+pub mod ClassTexts
+pub mod CodePlaces
+pub mod ContentGrammars
+pub mod Cuts
+pub mod Enough
+pub mod EnterableMembers
+pub mod Exits
+pub mod FieldValues
+pub mod FormedMethods
+pub mod Grammars
+pub mod Growth
+pub mod HasParts
+pub mod Heads
+pub mod KindLengths
+pub mod Layouts
+pub mod Lengths
+pub mod LongLists
+pub mod MemberKeys
 pub mod MemberMeanings
+pub mod MemberReads
+pub mod Members
+pub mod NamedAttributes
+pub mod NamedParts
+pub mod NeededLists
+pub mod NeededParts
+pub mod NoteTables
+pub mod Numbered
+pub mod ParameterCuts
+pub mod Parts
+pub mod Places
+pub mod PlainContents
+pub mod PoolBreaks
+pub mod PutNotes
+pub mod RestPlaces
+pub mod SeenKeys
+pub mod ShallowParts
+pub mod Shorts
+pub mod StartFrames
+pub mod Times
+pub mod Unchanged
+pub mod Values
+pub mod Widths
+pub mod Words
 pub mod WrittenClass

@@ -23,3 +23,4 @@ pub mod PoolLayout
 pub mod FieldValue
 pub mod Enterable
 pub mod Appending
+pub mod Written
