@@ -1,7 +1,7 @@
 pub mod Kinds
 pub mod Layout
 pub mod Numbers
-pub mod KindLengths
+pub mod Lengths
 pub mod Contents
 pub mod Heads
 pub mod Flags
