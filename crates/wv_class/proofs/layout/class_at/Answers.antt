@@ -26,3 +26,13 @@ returns-in_err-rest-clause-reads c =
 
 pub returns-clause-reads : goal.returns-clause-reads
 returns-clause-reads c = class_takes c.args.bytes.now c.in_ok-version.version c.in_ok-version.after.now c.in_ok-version.ensures c.in_ok-pool.pool c.in_ok-pool.after.now c.in_ok-pool.ensures c.in_ok-rest.rest c.in_ok-rest.after.now (subst (λ (k : List PoolEntry). Taken (SpellsRest k) c.in_ok-pool.after.now c.in_ok-rest.rest c.in_ok-rest.after.now) c.as_slice.ensures c.in_ok-rest.ensures)
+
+pub overflow_sub-behind_pool : goal.overflow_sub-behind_pool
+overflow_sub-behind_pool c =
+    let p = place_is c.args.bytes.now c.in_ok-version.version c.in_ok-version.after.now c.in_ok-version.ensures c.in_ok-pool.pool c.in_ok-pool.after.now c.in_ok-pool.ensures in
+    omega (arith, p)
+
+pub returns-clause-behind : goal.returns-clause-behind
+returns-clause-behind c =
+    let p = place_is c.args.bytes.now c.in_ok-version.version c.in_ok-version.after.now c.in_ok-version.ensures c.in_ok-pool.pool c.in_ok-pool.after.now c.in_ok-pool.ensures in
+    omega (arith, p)
