@@ -1,14 +1,14 @@
 -- Attributes.
-use Rattle.std.proofs.Common.{◌≡◌, ℕ, ◌+◌, ◌-◌, ◌^◌, ◌<◌, List, [], ◌∷◌, ◌++◌, length, Result, refl, sym, ap, subst, ◌∙◌, arith}
+use Rattle.std.proofs.Common.{◌≡◌, ℕ, ◌-◌, ◌^◌, ◌<◌, List, ◌++◌, length, Result, refl, sym, ap, subst, ◌∙◌, arith}
 use Rattle.wv_base.specs.declared.class_file.PoolEntry.{PoolEntry}
 use Rattle.wv_pool.specs.Entries.{number_bytes}
-use Rattle.wv_code.specs.Content.{length_bytes, named_bytes}
+use Rattle.wv_code.specs.Content.{length_bytes}
 use Rattle.wv_class.specs.declared.stop.Stop.{Stop}
 use Rattle.wv_class.specs.declared.raw_class.Place.{Place}
 use Rattle.wv_class.specs.declared.raw_class.Kind.{Kind}
 use Rattle.wv_class.specs.declared.raw_class.Content.{Content}
 use Rattle.wv_class.specs.declared.raw_class.RawAttribute.{RawAttribute}
-use Rattle.wv_class.specs.Kinds.{kind_at, kind_of}
+use Rattle.wv_class.specs.Kinds.{kind_at}
 use Rattle.wv_class.specs.Layout.{SpellsContent, SpellsAttribute, SpellsAttributes}
 use Rattle.wv_class.specs.Lengths.{AllowsLength}
 use Rattle.wv_class.specs.Contents.{SpellsSized, SpellsBehindLength}

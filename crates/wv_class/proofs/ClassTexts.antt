@@ -1,17 +1,13 @@
 -- Class files, and what stands behind their pools.
-use Rattle.std.proofs.Common.{◌≡◌, ℕ, ◌+◌, ◌-◌, ◌*◌, ◌^◌, ◌<◌, ◌≤◌, List, [], ◌∷◌, ◌++◌, length, refl, sym, ap, subst, ◌∙◌, append_assoc, arith}
-use Rattle.std.proofs.lemmas.List.{append-nil, length-append}
-use Rattle.wv_base.specs.declared.class_file.ClassVersion.{ClassVersion}
+use Rattle.std.proofs.Common.{◌≡◌, ℕ, ◌+◌, ◌-◌, ◌*◌, List, ◌++◌, length, refl, sym, ap, subst, ◌∙◌, arith}
 use Rattle.wv_base.specs.declared.class_file.PoolEntry.{PoolEntry}
-use Rattle.wv_pool.specs.Entries.{number_bytes, pool_bytes}
+use Rattle.wv_pool.specs.Entries.{number_bytes}
 use Rattle.wv_class.specs.declared.number.Three.{Three}
 use Rattle.wv_class.specs.declared.raw_class.Place.TheVariants as places
 use Rattle.wv_class.specs.declared.raw_class.RawAttribute.{RawAttribute}
 use Rattle.wv_class.specs.declared.raw_class.RawMember.{RawMember}
 use Rattle.wv_class.specs.declared.raw_class.RawRest.{RawRest}
-use Rattle.wv_class.specs.declared.raw_class.RawClass.{RawClass}
-use Rattle.wv_class.specs.Layout.{SpellsTable, SpellsAttributes, SpellsMembers, SpellsRest, SpellsClass, IsClass, numbers_bytes, magic}
-use Rattle.wv_class.specs.Heads.{SpellsHead, SpellsPool}
+use Rattle.wv_class.specs.Layout.{SpellsTable, SpellsAttributes, SpellsMembers, SpellsRest, numbers_bytes}
 use Rattle.wv_class.specs.Numbers.{SpellsShort, SpellsThree}
 use Rattle.wv_class.specs.Reading.{Taken, Stopped}
 use Rattle.wv_class.proofs.Grammars.{IsGrammar, Then, Was, Alike, then_grammar, was_grammar, was_takes, was_stops, alike_grammar, alike_stops, alike_takes, then_takes, first_stops, second_stops}
@@ -20,7 +16,6 @@ use Rattle.wv_class.proofs.Times.{table_grammar}
 use Rattle.wv_class.proofs.Numbered.{numbers_are, are_numbers, numbers_long}
 use Rattle.wv_class.proofs.AttributeReads.{attributes_grammar}
 use Rattle.wv_class.proofs.MemberReads.{three_in_front, members_grammar}
-use Rattle.wv_class.proofs.Heads.{pool_grammar}
 
 -- ---- behind the pool
 

@@ -1,8 +1,7 @@
 -- The contents of attributes, each kind of a length that it allows.
-use Rattle.std.proofs.Common.{◌≡◌, ℕ, zero, suc, ◌+◌, ◌-◌, ◌*◌, ◌/◌, ◌%◌, ◌^◌, ◌<◌, ◌≤◌, Bool, List, [], ◌∷◌, ◌++◌, length, replicate, Ok, refl, sym, subst, ap, ◌∙◌, ◌⊎◌, inl, inr, arith}
-use Rattle.std.specs.List.{flat_map, AllByRecursion}
-use Rattle.std.proofs.lemmas.List.{append-nil, length-append, length-replicate}
-use Rattle.std.proofs.lemmas.List.Concat.{flat_map-cons}
+use Rattle.std.proofs.Common.{◌≡◌, ℕ, zero, suc, ◌+◌, ◌-◌, ◌*◌, ◌/◌, ◌%◌, ◌^◌, ◌<◌, ◌≤◌, Bool, List, [], ◌∷◌, length, replicate, refl, sym, subst, ap, ◌∙◌, ◌⊎◌, inl, inr, arith}
+use Rattle.std.specs.List.{AllByRecursion}
+use Rattle.std.proofs.lemmas.List.{append-nil, length-replicate}
 use Rattle.std.proofs.lemmas.Bool.{cases_lt}
 use Rattle.wv_base.specs.declared.class_file.PoolEntry.{PoolEntry}
 use Rattle.wv_room.specs.Elements.{ElementsFill}
@@ -25,8 +24,8 @@ use Rattle.wv_class.specs.declared.raw_class.Kind.TheVariants as kinds
 use Rattle.wv_class.specs.declared.raw_class.Content.{Content}
 use Rattle.wv_class.specs.declared.raw_class.Content.TheVariants as contents
 use Rattle.wv_class.specs.Kinds.{kind_of}
-use Rattle.wv_class.specs.Layout.{numbers_bytes, AreNumbers, SpellsLists, SpellsContent}
-use Rattle.wv_class.specs.Lengths.{IsThrownLength, IsListLength, AllowsLength}
+use Rattle.wv_class.specs.Layout.{numbers_bytes, SpellsLists, SpellsContent}
+use Rattle.wv_class.specs.Lengths.{IsListLength, AllowsLength}
 use Rattle.wv_class.specs.Contents.{SpellsSized}
 use Rattle.wv_class.proofs.Grammars.{IsGrammar}
 use Rattle.wv_class.proofs.Shorts.{short_value}

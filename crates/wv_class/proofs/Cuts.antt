@@ -1,15 +1,15 @@
 -- Contents that other readers read, of which bytes may be missing at the end.
 use Rattle.std.proofs.Common.{◌≡◌, ℕ, zero, suc, ◌+◌, ◌-◌, ◌^◌, ◌<◌, ◌≤◌, Bool, List, [], ◌∷◌, ◌++◌, length, take, drop, refl, sym, ap, subst, ◌∙◌, inl, inr, arith}
 use Rattle.std.proofs.lemmas.Bool.{cases_lt}
-use Rattle.std.proofs.lemmas.List.{length-append, length-drop, length-take, length-take-le, take-append-drop, take-append-le, take-take, take_at}
+use Rattle.std.proofs.lemmas.List.{length-append, length-drop, length-take, length-take-le, take-append-drop, take-take, take_at}
 use Rattle.wv_base.specs.declared.class_file.PoolEntry.{PoolEntry}
 use Rattle.wv_code.specs.declared.raw_body.RawBody.{RawBody}
 use Rattle.wv_code.specs.Content.{IsContent}
-use Rattle.wv_code.specs.Content.{Begins as BeginsCode, IsLayoutFault as IsCodeFault}
+use Rattle.wv_code.specs.Content.{IsLayoutFault as IsCodeFault}
 use Rattle.wv_attr.specs.declared.mark.Mark.{Mark}
 use Rattle.wv_attr.specs.declared.group.Group.{Group}
 use Rattle.wv_attr.specs.Marks.{table_bytes}
-use Rattle.wv_attr.specs.Layout.{lists, IsTable, IsParameterTable, BreaksBehind, BreaksFirst}
+use Rattle.wv_attr.specs.Layout.{lists}
 use Rattle.wv_attr.specs.Layout.{Begins as BeginsParts, IsLayoutFault as IsPartsFault}
 use Rattle.wv_attr.proofs.Leading.{nearer_only}
 use Rattle.wv_class.specs.declared.raw_class.Kind.{Kind}
@@ -17,10 +17,10 @@ use Rattle.wv_class.specs.declared.raw_class.Kind.TheVariants as kinds
 use Rattle.wv_class.specs.declared.raw_class.Content.{Content}
 use Rattle.wv_class.specs.declared.raw_class.Content.TheVariants as contents
 use Rattle.wv_class.specs.Kinds.{kind_of}
-use Rattle.wv_class.specs.Layout.{Begins, SpellsParts, SpellsLists, SpellsContent}
+use Rattle.wv_class.specs.Layout.{Begins, SpellsParts, SpellsContent}
 use Rattle.wv_class.specs.Lengths.{AllowsLength}
 use Rattle.wv_class.specs.Contents.{SpellsSized}
-use Rattle.wv_class.specs.Reading.{Taken, Stopped}
+use Rattle.wv_class.specs.Reading.{Stopped}
 use Rattle.wv_class.proofs.Allowed.{one_longer}
 use Rattle.wv_class.proofs.ContentGrammars.{some_sized}
 

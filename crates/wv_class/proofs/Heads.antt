@@ -1,10 +1,10 @@
 -- What a class file begins with.
-use Rattle.std.proofs.Common.{◌≡◌, ℕ, ◌+◌, ◌-◌, ◌^◌, ◌<◌, ◌≤◌, List, [], ◌∷◌, ◌++◌, length, take, drop, Ok, refl, sym, ap, subst, ◌∙◌, append_assoc, inl, inr, arith}
+use Rattle.std.proofs.Common.{◌≡◌, ℕ, ◌-◌, ◌^◌, ◌<◌, List, [], ◌++◌, length, take, drop, refl, sym, ap, subst, ◌∙◌, append_assoc, inl, inr, arith}
 use Rattle.std.proofs.lemmas.List.{append-nil, length-drop, take-append-drop}
 use Rattle.wv_base.specs.declared.class_file.ClassVersion.{ClassVersion}
 use Rattle.wv_base.specs.declared.class_file.PoolEntry.{PoolEntry}
 use Rattle.wv_pool.specs.Entries.{IsLayout, number_bytes, pool_bytes}
-use Rattle.wv_pool.specs.Layout.{StartsWithPool, BeginsPool, IsLayoutFault}
+use Rattle.wv_pool.specs.Layout.{IsLayoutFault}
 use Rattle.wv_pool.specs.Reading.{pool_at}
 use Rattle.wv_pool.proofs.Slots.{pool_again, ok_is}
 use Rattle.wv_code.specs.Content.{length_bytes}
@@ -12,7 +12,7 @@ use Rattle.wv_class.specs.Layout.{Begins, magic}
 use Rattle.wv_class.specs.Heads.{SpellsHead, SpellsPool}
 use Rattle.wv_class.specs.Numbers.{SpellsShort, SpellsExactly}
 use Rattle.wv_class.specs.Reading.{Taken, Stopped}
-use Rattle.wv_class.proofs.Grammars.{IsGrammar, Inside, splits, Then, Was, Alike, then_grammar, was_grammar, was_takes, was_stops, alike_grammar, alike_stops, alike_takes, then_takes, first_stops, second_stops}
+use Rattle.wv_class.proofs.Grammars.{IsGrammar, splits, Then, Was, Alike, then_grammar, was_grammar, was_takes, was_stops, alike_grammar, alike_stops, alike_takes, then_takes, first_stops, second_stops}
 use Rattle.wv_class.proofs.Shorts.{short_grammar}
 use Rattle.wv_class.proofs.Allowed.{allowed_grammar, one_longer}
 use Rattle.wv_class.proofs.AllowedNumbers.{four_is, is_four}

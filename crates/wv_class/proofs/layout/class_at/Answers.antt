@@ -1,9 +1,9 @@
-use Rattle.std.proofs.Common.{◌≡◌, List, ℕ, length, Bor, subst, arith}
+use Rattle.std.proofs.Common.{List, ℕ, Bor, subst, arith}
 use Rattle.wv_base.specs.declared.class_file.ClassVersion.{ClassVersion}
 use Rattle.wv_base.specs.declared.class_file.PoolEntry.{PoolEntry}
 use Rattle.wv_class.specs.declared.raw_class.RawRest.{RawRest}
 use Rattle.wv_class.specs.declared.raw_class.RawClass.{RawClass}
-use Rattle.wv_class.specs.Layout.{SpellsRest, SpellsClass}
+use Rattle.wv_class.specs.Layout.{SpellsRest}
 use Rattle.wv_class.specs.Reading.{Taken, Stopped}
 use Rattle.wv_class.proofs.Exits.{seen, fails_as}
 use Rattle.wv_class.proofs.ClassFiles.{head_stops, pool_stops, rest_stops, class_takes, place_is}
