@@ -54,9 +54,11 @@ pub use writing::write_class;
 
 #[cfg(test)]
 mod break_tests;
-
 #[cfg(test)]
 mod layout_tests;
-
+#[cfg(test)]
+mod limit_tests;
 #[cfg(test)]
 mod reading_tests;
+#[cfg(test)]
+mod writing_tests;

@@ -8,7 +8,7 @@ use wv_base::{ClassFault, ClassFile, Const, Insn};
 
 /// The smallest class, `app/E`: the pool 1 Class 2, 2 app/E, 3 Class 4, 4 java/lang/Object, the flags
 /// 0021, the class 1, the superclass 3 and four counts of 0.
-const SMALLEST: [u8; 57] = [
+pub(crate) const SMALLEST: [u8; 57] = [
     0xca, 0xfe, 0xba, 0xbe, 0, 0, 0, 52, 0, 5, 7, 0, 2, 1, 0, 5, 97, 112, 112, 47, 69, 7, 0, 4, 1,
     0, 16, 106, 97, 118, 97, 47, 108, 97, 110, 103, 47, 79, 98, 106, 101, 99, 116, 0, 33, 0, 1, 0,
     3, 0, 0, 0, 0, 0, 0, 0, 0,
@@ -76,11 +76,7 @@ fn magic_numbers(rt: HostRuntime) -> Result<(), Fail> {
     for place in 0..4usize {
         let mut bytes = SMALLEST.to_vec(rt.alloc())?;
         bytes[place] = 0;
-        assert_eq!(rt;
-            read(rt.alloc(), &bytes)?,
-            Answer::Layout(place),
-            "{place}"
-        );
+        assert_eq!(rt; read(rt.alloc(), &bytes)?, Answer::Layout(place), "{place}");
     }
     Ok(())
 }
@@ -99,7 +95,7 @@ fn text(pool: &mut Vec<u8>, text: &str) -> Result<(), Fail> {
 /// 7 ()V, 8 Code, 9 ConstantValue, 10 Integer 7, 11 Exceptions, 12 <clinit>, 13 [LA;, 14 Class 13,
 /// 15 RuntimeVisibleAnnotations, 16 LA;, 17 a<b, 18 RuntimeVisibleParameterAnnotations, 19 Float 0,
 /// 20 a/b, 21 Kept, 22 String 5, 23 Ljava/lang/String;.
-fn head(alloc: Global) -> Result<Vec<u8>, Fail> {
+pub(crate) fn head(alloc: Global) -> Result<Vec<u8>, Fail> {
     let mut out = [0xca, 0xfe, 0xba, 0xbe, 0, 0, 0, 52, 0, 24].to_vec(alloc)?;
     text(&mut out, "A")?;
     out.extend_from_slice(&[7, 0, 1])?;
@@ -144,10 +140,10 @@ fn read_behind(alloc: Global, parts: &[&[u8]]) -> Result<Answer, Fail> {
 }
 
 /// Public flags, the class 2, the superclass 4 and no interface: eight bytes.
-const FRONT: &[u8] = &[0, 33, 0, 2, 0, 4, 0, 0];
+pub(crate) const FRONT: &[u8] = &[0, 33, 0, 2, 0, 4, 0, 0];
 
 /// A count of 0.
-const NONE: &[u8] = &[0, 0];
+pub(crate) const NONE: &[u8] = &[0, 0];
 
 /// A count of 1.
 const ONE: &[u8] = &[0, 1];

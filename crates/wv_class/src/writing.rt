@@ -34,7 +34,6 @@ fn head(alloc: Global, version: ClassVersion) -> Result<Bytes, Memory>
 /// The pool as it was read, with the constants that the class names behind it.
 fn full_pool(alloc: Global, class: &ClassFile) -> Result<Pool, LimitFault>
     requires { IsFormedClass class.now }
-    ensures sound { IfOk result IsPool }
     ensures grown { IfOk result (Grows class.now.pool (class_needs class.now)) }
     ensures sound { IfOk result IsPool }
     ensures limit { IfErr result (IsCause class.now) }
