@@ -41,7 +41,7 @@ class_others pool old notes kept bytes grown notes_formed kept_formed w =
     let parts = others_again pool 0 (λ _. Unit {0}) old places.Class notes kept bytes grown notes_formed kept_formed w in
     record {
       all = parts.all;
-      count = parts.counted;
+      count = omega (arith, parts.counted);
       spelled = parts.spelled;
       sound = AllByRecursion-map (NeverBreaks pool 0 (λ _. Unit {0})) (λ (a : RawAttribute). (at : ℕ) → PartsBreak pool a.content at → ⊥) parts.all
           (λ a never at h. never nobody at tt (parts_break pool 0 nobody a.content at h)) parts.sound;
@@ -63,11 +63,11 @@ module _ (pool old : List PoolEntry) (class : ℕ) (owner : List ℕ) (m : Membe
       let base = others_again pool class (IsHeadOf pool m) old places.Field m.notes m.kept others grown formed.notes formed.kept others_are in
       let no_code : code ≡ [] = subst (λ (b : Option Body). WritesCode pool b code) formed.no_body code_is in
       let no_exceptions : exceptions ≡ [] = subst (λ (names : List (List ℕ)). WritesExceptions pool names exceptions) formed.no_throws exceptions_are in
-      let found = value_before pool class m m.value [] [] m.notes m.kept (length (tables_of m.notes) + length m.kept) value others formed.value value_is base in
+      let found = value_before pool class m m.value [] [] m.notes m.kept (length m.kept + length (tables_of m.notes)) value others formed.value value_is base in
       let body = ap one_if formed.no_body in
       let throws = ap one_if_any formed.no_throws in
       subst (AreAttributes pool places.Field class m) (ap (λ (t : List ℕ). value ++ (t ++ others)) (sym no_exceptions) ∙ ap (λ (t : List ℕ). value ++ (t ++ (exceptions ++ others))) (sym no_code))
-      (all_again pool class m places.Field [] found.0 [] (one_if m.value + (length (tables_of m.notes) + length m.kept)) (value ++ others)
+      (all_again pool class m places.Field [] found.0 [] (length m.kept + length (tables_of m.notes) + one_if m.value) (value ++ others)
       (subst (λ (b : Option Body). HasCode pool class m b []) (sym formed.no_body) (record { other = None; many = refl; same = tt; means = λ raw head. tt }))
       found.1
       found.2
@@ -79,14 +79,14 @@ module _ (pool old : List PoolEntry) (class : ℕ) (owner : List ℕ) (m : Membe
       → WritesValue pool m.value value → WritesCode pool m.body code → WritesExceptions pool m.throws exceptions → WritesOthers pool m.notes m.kept others
       → AreAttributes pool places.Method class m (value ++ (code ++ (exceptions ++ others)))
   method_attributes sound grown owner_is formed value_is code_is exceptions_are others_are =
-      let tables = length (tables_of m.notes) + length m.kept in
+      let tables = length m.kept + length (tables_of m.notes) in
       let base = others_again pool class (IsHeadOf pool m) old places.Method m.notes m.kept others grown formed.notes formed.kept others_are in
       let thrown = exceptions_before pool class m m.throws m.notes m.kept tables exceptions others exceptions_are base in
-      let coded = code_before pool class m owner m.body [] thrown.0 m.notes m.kept (one_if_any m.throws + tables) code (exceptions ++ others) owner_is formed.descriptor.0 code_is thrown.2 in
+      let coded = code_before pool class m owner m.body [] thrown.0 m.notes m.kept (tables + one_if_any m.throws) code (exceptions ++ others) owner_is formed.descriptor.0 code_is thrown.2 in
       let no_value : value ≡ [] = subst (λ (v : Option Const). WritesValue pool v value) formed.no_value value_is in
       let counted = ap one_if formed.no_value in
       subst (AreAttributes pool places.Method class m) (ap (λ (t : List ℕ). t ++ (code ++ (exceptions ++ others))) (sym no_value))
-      (all_again pool class m places.Method coded.0 [] thrown.0 (one_if m.body + (one_if_any m.throws + tables)) (code ++ (exceptions ++ others))
+      (all_again pool class m places.Method coded.0 [] thrown.0 (tables + one_if_any m.throws + one_if m.body) (code ++ (exceptions ++ others))
       coded.1
       (subst (IsValueIn pool []) (sym formed.no_value) tt)
       (omega arith)

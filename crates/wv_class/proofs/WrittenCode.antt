@@ -133,9 +133,12 @@ module _ (pool : List PoolEntry) (class : ℕ) (m : Member) where
       )
 
   pub exceptions_before : (names : List (List ℕ)) (notes : List Note) (kept : List Attribute) (count : ℕ) (front bytes : List ℕ) → WritesExceptions pool names front → Of places.Method [] [] [] notes kept count bytes
-      → (exceptions : List ℕ) × AreClasses pool exceptions names × Of places.Method [] [] exceptions notes kept (one_if_any names + count) (front ++ bytes)
-  exceptions_before [] notes kept count front bytes w others = ([], tt, subst (λ (t : List ℕ). Of places.Method [] [] [] notes kept count (t ++ bytes)) (sym w) others)
-  exceptions_before (name ∷ names) notes kept count front bytes w others = exceptions_named (name ∷ names) notes kept count front bytes w others
+      → (exceptions : List ℕ) × AreClasses pool exceptions names × Of places.Method [] [] exceptions notes kept (count + one_if_any names) (front ++ bytes)
+  exceptions_before [] notes kept count front bytes w others =
+      ([], tt, subst (λ (n : ℕ). Of places.Method [] [] [] notes kept n (front ++ bytes)) (omega arith) (subst (λ (t : List ℕ). Of places.Method [] [] [] notes kept count (t ++ bytes)) (sym w) others))
+  exceptions_before (name ∷ names) notes kept count front bytes w others =
+      let read = exceptions_named (name ∷ names) notes kept count front bytes w others in
+      (read.0, read.1, subst (λ (n : ℕ). Of places.Method [] [] read.0 notes kept n (front ++ bytes)) (omega arith) read.2)
 
   -- the code of a method
   module _ (owner : List ℕ) (body : Body) (front : List ℕ) (owner_is : class_name pool class ≡ Some owner) (described : IsMethodDescriptor m.descriptor)
@@ -197,16 +200,17 @@ module _ (pool : List PoolEntry) (class : ℕ) (m : Member) where
 
   pub code_before : (owner : List ℕ) (body : Option Body) (values exceptions : List ℕ) (notes : List Note) (kept : List Attribute) (count : ℕ) (front bytes : List ℕ) → class_name pool class ≡ Some owner → IsMethodDescriptor m.descriptor
       → WritesCode pool body front → Of places.Method [] values exceptions notes kept count bytes
-      → (raws : List RawBody) × HasCode pool class m body raws × Of places.Method raws values exceptions notes kept (one_if body + count) (front ++ bytes)
+      → (raws : List RawBody) × HasCode pool class m body raws × Of places.Method raws values exceptions notes kept (count + one_if body) (front ++ bytes)
   code_before owner None values exceptions notes kept count front bytes owner_is described w others = (
     [],
     record { other = None; many = refl; same = tt; means = λ raw head. tt },
-    subst (λ (t : List ℕ). Of places.Method [] values exceptions notes kept count (t ++ bytes)) (sym w) others,
+    subst (λ (n : ℕ). Of places.Method [] values exceptions notes kept n (front ++ bytes)) (omega arith) (subst (λ (t : List ℕ). Of places.Method [] values exceptions notes kept count (t ++ bytes)) (sym w) others),
   )
   code_before owner (Some body) values exceptions notes kept count front bytes owner_is described w others = (
     raw_code owner body front owner_is described w ∷ [],
     code_means owner body front owner_is described w,
-    code_named owner body front owner_is described w values exceptions notes kept count bytes others,
+    subst (λ (n : ℕ). Of places.Method (raw_code owner body front owner_is described w ∷ []) values exceptions notes kept n (front ++ bytes)) (omega arith)
+    (code_named owner body front owner_is described w values exceptions notes kept count bytes others),
   )
 
   -- the value of a field
@@ -228,9 +232,19 @@ module _ (pool : List PoolEntry) (class : ℕ) (m : Member) where
 
   pub value_before : (value : Option Const) (raws : List RawBody) (exceptions : List ℕ) (notes : List Note) (kept : List Attribute) (count : ℕ) (front bytes : List ℕ) → IsFormedValue m.descriptor value → WritesValue pool value front
       → Of places.Field raws [] exceptions notes kept count bytes
-      → (values : List ℕ) × IsValueIn pool values value × (length values ≤ 1) × Of places.Field raws values exceptions notes kept (one_if value + count) (front ++ bytes)
-  value_before None raws exceptions notes kept count front bytes formed w others = ([], tt, omega arith, subst (λ (t : List ℕ). Of places.Field raws [] exceptions notes kept count (t ++ bytes)) (sym w) others)
-  value_before (Some value) raws exceptions notes kept count front bytes formed w others = (w.written.0 ∷ [], w.written.2, omega arith, value_named value raws exceptions notes kept count front bytes formed.0 w others)
+      → (values : List ℕ) × IsValueIn pool values value × (length values ≤ 1) × Of places.Field raws values exceptions notes kept (count + one_if value) (front ++ bytes)
+  value_before None raws exceptions notes kept count front bytes formed w others = (
+    [],
+    tt,
+    omega arith,
+    subst (λ (n : ℕ). Of places.Field raws [] exceptions notes kept n (front ++ bytes)) (omega arith) (subst (λ (t : List ℕ). Of places.Field raws [] exceptions notes kept count (t ++ bytes)) (sym w) others),
+  )
+  value_before (Some value) raws exceptions notes kept count front bytes formed w others = (
+    w.written.0 ∷ [],
+    w.written.2,
+    omega arith,
+    subst (λ (n : ℕ). Of places.Field raws (w.written.0 ∷ []) exceptions notes kept n (front ++ bytes)) (omega arith) (value_named value raws exceptions notes kept count front bytes formed.0 w others),
+  )
 
   -- ---- All of them
 

@@ -1,5 +1,5 @@
 -- Tables of annotations and attributes that are kept, as they are read again.
-use Rattle.std.proofs.Common.{◌≡◌, ℕ, zero, suc, ◌+◌, ◌-◌, ◌^◌, ◌<◌, ◌≤◌, ◌&&◌, nat_le, if◌then◌else◌, Bool, true, false, List, [], ◌∷◌, ◌++◌, length, Option, Some, None, refl, sym, ap, subst, ◌∙◌, inl, inr, arith, append_assoc}
+use Rattle.std.proofs.Common.{◌≡◌, ℕ, zero, suc, ◌+◌, ◌-◌, ◌<◌, ◌≤◌, ◌&&◌, nat_le, if◌then◌else◌, Bool, true, false, List, [], ◌∷◌, ◌++◌, length, Option, Some, None, refl, sym, ap, subst, ◌∙◌, inl, inr, arith, append_assoc}
 use Rattle.std.specs.Prelude.{slice_get}
 use Rattle.std.specs.List.{AllByRecursion, flat_map}
 use Rattle.std.proofs.lemmas.List.{length-append}
@@ -20,7 +20,6 @@ use Rattle.wv_class.specs.declared.raw_class.Place.{Place}
 use Rattle.wv_class.specs.declared.raw_class.Place.TheVariants as places
 use Rattle.wv_class.specs.declared.raw_class.Kind.TheVariants as kinds
 use Rattle.wv_class.specs.declared.raw_class.Content.TheVariants as contents
-use Rattle.wv_class.specs.declared.raw_class.RawAttribute.{RawAttribute}
 use Rattle.wv_class.specs.declared.raw_class.RawMember.{RawMember}
 use Rattle.wv_class.specs.Appending.{WritesEach, WritesNamed, WritesNotes, WritesTable, IsNumbered, WritesOthers}
 use Rattle.wv_class.specs.Formed.{AreFormedKept, IsFormedTableOf, IsFormedTable, AreFormedNotes}
@@ -166,7 +165,7 @@ number_kept old pool number (more, longer) le = by_test (nat_le number (length p
 
     by_test : (t : Bool) → nat_le number (length pool) ≡ t → ◌≡◌ {A = ℕ} (if t then number else 0) number
     by_test true e = refl
-    by_test false e = absurd (grind (arith, nat_tests))
+    by_test false e = absurd (grind (arith, nat_tests, within))
 
 -- ---- Lists with their count in one byte
 
@@ -235,11 +234,13 @@ module _ (pool : List PoolEntry) (class : ℕ) (Head : RawMember → Type 0) whe
   table_before place (note ∷ table) notes kept count front bytes w formed all others = kind_before place note.visible note.parameter (note ∷ table) notes kept count front bytes w formed all others
 
   tables_before : (place : Place) (tables : List (List Note)) (kept : List Attribute) (count : ℕ) (front bytes : List ℕ) → WritesEach (WritesTable pool) tables front → AllByRecursion (IsFormedTable place) tables → AllByRecursion IsUniform tables
-      → Others place [] kept count bytes → Others place (joined tables) kept (length tables + count) (front ++ bytes)
-  tables_before place [] kept count front bytes w formed all others = subst (λ (t : List ℕ). Others place [] kept count (t ++ bytes)) (sym w) others
+      → Others place [] kept count bytes → Others place (joined tables) kept (count + length tables) (front ++ bytes)
+  tables_before place [] kept count front bytes w formed all others =
+      subst (λ (n : ℕ). Others place [] kept n (front ++ bytes)) (omega arith) (subst (λ (t : List ℕ). Others place [] kept count (t ++ bytes)) (sym w) others)
   tables_before place (table ∷ tables) kept count front bytes (first, back, here, later, is) formed all others =
-      subst (Others place (joined (table ∷ tables)) kept (suc (length tables + count))) (sym (append_assoc first back bytes) ∙ ap (λ (t : List ℕ). t ++ bytes) (sym is))
-      (table_before place table (joined tables) kept (length tables + count) first (back ++ bytes) here formed.0 all.0 (tables_before place tables kept count back bytes later formed.1 all.1 others))
+      subst (λ (n : ℕ). Others place (joined (table ∷ tables)) kept n (front ++ bytes)) (omega arith)
+      (subst (Others place (joined (table ∷ tables)) kept (suc (count + length tables))) (sym (append_assoc first back bytes) ∙ ap (λ (t : List ℕ). t ++ bytes) (sym is))
+      (table_before place table (joined tables) kept (count + length tables) first (back ++ bytes) here formed.0 all.0 (tables_before place tables kept count back bytes later formed.1 all.1 others)))
 
   kept_again : (old : List PoolEntry) (place : Place) (kept : List Attribute) → Keeps old pool → AreFormedKept old place kept → AllByRecursion IsNumbered kept → Others place [] kept (length kept) (flat_map written_bytes kept)
   kept_again old place [] grown formed numbered = no_parts pool place class Head
@@ -259,7 +260,7 @@ module _ (pool : List PoolEntry) (class : ℕ) (Head : RawMember → Type 0) whe
       (kept_again old place kept grown formed.1 numbered.1))
 
   pub others_again : (old : List PoolEntry) (place : Place) (notes : List Note) (kept : List Attribute) (bytes : List ℕ) → Keeps old pool → AreFormedNotes place notes → AreFormedKept old place kept → WritesOthers pool notes kept bytes
-      → AreParts pool place class Head (others_of notes kept) (length (tables_of notes) + length kept) bytes
+      → AreParts pool place class Head (others_of notes kept) (length kept + length (tables_of notes)) bytes
   others_again old place notes kept bytes grown notes_formed kept_formed w =
       let all = tables_before place (tables_of notes) kept (length kept) w.tables (flat_map written_bytes kept) w.tables_are notes_formed (tables_uniform notes) (kept_again old place kept grown kept_formed w.kept_are) in
-      subst (Others place notes kept (length (tables_of notes) + length kept)) (sym w.spelled) (subst (λ (t : List Note). Others place t kept (length (tables_of notes) + length kept) (w.tables ++ flat_map written_bytes kept)) (tables_joined notes) all)
+      subst (Others place notes kept (length kept + length (tables_of notes))) (sym w.spelled) (subst (λ (t : List Note). Others place t kept (length kept + length (tables_of notes)) (w.tables ++ flat_map written_bytes kept)) (tables_joined notes) all)

@@ -3,6 +3,7 @@ use Rattle.std.proofs.Common.{◌≡◌, ℕ, zero, suc, ◌+◌, ◌-◌, ◌�
 use Rattle.std.specs.Prelude.{slice_get, if◌then◌else◌, IsTrue}
 use Rattle.std.specs.List.{AllByRecursion, flat_map}
 use Rattle.std.proofs.lemmas.List.{length-append}
+use Rattle.std.proofs.lemmas.List.Sums.{sum_by-cons}
 use Rattle.wv_base.specs.declared.class_file.PoolEntry.{PoolEntry}
 use Rattle.wv_base.specs.declared.class_file.Attribute.{Attribute}
 use Rattle.wv_base.specs.declared.note.Note.{Note}
@@ -79,7 +80,9 @@ code_one (contents.Other bytes) = refl
 
 pub codes_counted : (all : List RawAttribute) → count_codes all ≡ length (codes_in all)
 codes_counted [] = refl
-codes_counted (a ∷ all) = let rest = codes_counted all in omega (arith, code_one a.content, rest, length-append (content_codes a.content) (codes_in all))
+codes_counted (a ∷ all) =
+    let here = sum_by-cons (λ (b : RawAttribute). if is_code b.content then 1 else 0) a all in
+    let rest = codes_counted all in omega (arith, here, code_one a.content, rest, length-append (content_codes a.content) (codes_in all))
 
 -- ---- One before the others
 
