@@ -51,4 +51,8 @@ pub mod Unchanged
 pub mod Values
 pub mod Widths
 pub mod Words
+pub mod WrittenAttributes
 pub mod WrittenClass
+pub mod WrittenCode
+pub mod WrittenNotes
+pub mod WrittenParts
