@@ -6,6 +6,7 @@ pub mod AttributeMeanings
 pub mod AttributeReads
 pub mod Attributes
 pub mod ClassFiles
+pub mod ClassMeanings
 pub mod ClassPut
 pub mod ClassReads
 pub mod ClassTexts
@@ -25,6 +26,7 @@ pub mod KindLengths
 pub mod Layouts
 pub mod Lengths
 pub mod LongLists
+pub mod MeaningParts
 pub mod MemberKeys
 pub mod MemberMeanings
 pub mod MemberReads
@@ -35,12 +37,14 @@ pub mod NeededLists
 pub mod NeededParts
 pub mod NoteTables
 pub mod Numbered
+pub mod OneMeaning
 pub mod ParameterCuts
 pub mod Parts
 pub mod Places
 pub mod PlainContents
 pub mod PoolBreaks
 pub mod PutNotes
+pub mod ReadMembers
 pub mod RestPlaces
 pub mod SeenKeys
 pub mod ShallowParts

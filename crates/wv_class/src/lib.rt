@@ -19,6 +19,7 @@ mod formed_names;
 mod formed_notes;
 mod formed_value;
 mod kind;
+mod laws;
 mod layout;
 mod least;
 mod len;
@@ -49,6 +50,7 @@ mod verification_type;
 mod writing;
 
 pub use formed::is_formed;
+pub use laws::one_class;
 pub use reading::read_class;
 pub use writing::write_class;
 

@@ -3,6 +3,7 @@ use Rattle.std.proofs.lemmas.Result.{err_from_is_err_and}
 use Rattle.wv_base.specs.declared.class_file.PoolEntry.{PoolEntry}
 use Rattle.wv_class.specs.Breaks.{RestBreaks}
 use Rattle.wv_class.proofs.ClassReads.{class_sound, pool_breaks, pool_only, rest_only, first_at, none_at}
+use Rattle.wv_class.proofs.OneMeaning.{found_only}
 use Rattle.wv_class.proofs.reading.read_class.Goals as goal
 
 pub returns-in_err-raw-clause-only : goal.returns-in_err-raw-clause-only
@@ -50,3 +51,8 @@ returns-in_ok-class_of-in-None-clause-found c =
           (none_at c.in_ok-raw.raw c.in_ok-raw.behind_pool c.in_ok-pool.pool c.in_ok-at.field-0 c.in_ok-raw.ensures.behind same c.in-None.is c.in_ok-at.ensures);
       means = c.in_ok-class_of-in-None.ensures c.in_ok-raw.raw refl (sym same) refl;
     }
+
+pub returns-in_ok-class_of-in-None-clause-only : goal.returns-in_ok-class_of-in-None-clause-only
+returns-in_ok-class_of-in-None-clause-only c = λ class spells.
+    let same : c.in_ok-pool.pool ≡ c.in_ok-raw.raw.pool = c.in_ok-pool.ensures.found ∙ c.as_slice.ensures in
+    found_only c.in_ok-raw.raw c.args.bytes.now c.in_ok-raw.ensures.found c.in_ok-class_of-in-None.field-0 (c.in_ok-class_of-in-None.ensures c.in_ok-raw.raw refl (sym same) refl) class spells (c.in_ok-raw.ensures.only spells.raw spells.layout)
