@@ -74,13 +74,13 @@ class_is c rest written raw version pool is h =
 
 module _
     (field_attributes : (pool old : List PoolEntry) (class : ℕ) (owner : List ℕ) (m : Member) (value code exceptions others : List ℕ) → IsPool pool → Keeps old pool → class_name pool class ≡ Some owner → IsFormedField old m
-        → WritesValue pool m.value value → WritesCode pool m.body code → WritesExceptions pool m.throws exceptions → WritesOthers pool m.notes m.kept others
-        → AreAttributes pool places.Field class m (value ++ (code ++ (exceptions ++ others))))
+    → WritesValue pool m.value value → WritesCode pool m.body code → WritesExceptions pool m.throws exceptions → WritesOthers pool m.notes m.kept others
+    → AreAttributes pool places.Field class m (value ++ (code ++ (exceptions ++ others))))
     (method_attributes : (pool old : List PoolEntry) (class : ℕ) (owner : List ℕ) (m : Member) (value code exceptions others : List ℕ) → IsPool pool → Keeps old pool → class_name pool class ≡ Some owner → IsFormedMethod old m
-        → WritesValue pool m.value value → WritesCode pool m.body code → WritesExceptions pool m.throws exceptions → WritesOthers pool m.notes m.kept others
-        → AreAttributes pool places.Method class m (value ++ (code ++ (exceptions ++ others))))
+    → WritesValue pool m.value value → WritesCode pool m.body code → WritesExceptions pool m.throws exceptions → WritesOthers pool m.notes m.kept others
+    → AreAttributes pool places.Method class m (value ++ (code ++ (exceptions ++ others))))
     (class_others : (pool old : List PoolEntry) (notes : List Note) (kept : List Attribute) (bytes : List ℕ) → Keeps old pool → AreFormedNotes places.Class notes → AreFormedKept old places.Class kept
-        → WritesOthers pool notes kept bytes → AreOthers pool places.Class notes kept bytes) where
+    → WritesOthers pool notes kept bytes → AreOthers pool places.Class notes kept bytes) where
   module _ (pool : List PoolEntry) (c : ClassFile) (bytes : List ℕ) (formed : IsFormedClass c) (keeps : Keeps c.pool pool) (sound : IsPool pool) (w : WritesParts pool c bytes) where
     abbrev class : ℕ
     class = w.name_is.0
