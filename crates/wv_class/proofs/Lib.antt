@@ -1,3 +1,6 @@
+pub mod AgainMembers
+pub mod AgainRest
+pub mod AgainTables
 pub mod Allowed
 pub mod AllowedNumbers
 pub mod AnnotationsPut
