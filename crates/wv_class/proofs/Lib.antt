@@ -40,6 +40,7 @@ pub mod Parts
 pub mod Places
 pub mod PlainContents
 pub mod PoolBreaks
+pub mod PutMembers
 pub mod PutNotes
 pub mod RestPlaces
 pub mod SeenKeys
@@ -51,4 +52,5 @@ pub mod Unchanged
 pub mod Values
 pub mod Widths
 pub mod Words
+pub mod WritableMembers
 pub mod WrittenClass
