@@ -46,6 +46,7 @@ pub mod Parts
 pub mod Places
 pub mod PlainContents
 pub mod PoolBreaks
+pub mod PutMembers
 pub mod PutNotes
 pub mod ReadMembers
 pub mod RestPlaces
@@ -59,6 +60,7 @@ pub mod Values
 pub mod Widths
 pub mod Words
 pub mod WrittenAttributes
+pub mod WritableMembers
 pub mod WrittenClass
 pub mod WrittenCode
 pub mod WrittenNotes

@@ -3,18 +3,17 @@ ghost use Rattle.std.specs.Prelude.{◌≡◌, ◌<◌, ◌^◌, length, OnOk};
 ghost use Rattle.std.specs.List.{AllByRecursion};
 ghost use Rattle.std.specs.Option.{option_copied};
 ghost use Rattle.wv_base.specs.declared.class_file.Member.{Member as AnyMember};
-ghost use Rattle.wv_class.specs.Tables.{tables_of};
 ghost use Rattle.wv_class.specs.Limits.{member_attributes};
 ghost use Rattle.wv_class.specs.Laid.{IsLaid, AreLaid};
 ghost use Rattle.wv_class.specs.Appending.{Appends, WritesEach, WritesMember, WritesMembers, IsWritableMember};
 
 use crate::attribute_writing::{put_code, put_exceptions, put_value};
+use crate::limits::table_count;
 use crate::note_writing::put_others;
 use crate::putting::{put_number, put_text};
-use crate::tables::first_table_len;
 use bitflags::Flags;
 use std::alloc::Global;
-use wv_base::{Bytes, Member, Memory, Name, Note};
+use wv_base::{Bytes, Member, Memory, Name};
 use wv_code::CodeLayout;
 use wv_desc::method_type;
 use wv_pool::Pool;
@@ -27,21 +26,9 @@ fn parameter_count(alloc: Global, descriptor: &Name) -> Result<usize, Memory> {
     })
 }
 
-/// How many tables the annotations stand in.
-pub(crate) fn table_count(notes: &[Note]) -> usize
-    ensures { result ≡ length (tables_of notes.now) }
-{
-    let mut count = 0;
-    let mut rest = notes;
-    while !rest.is_empty() {
-        rest = &rest[first_table_len(rest)..];
-        count += 1;
-    }
-    count
-}
-
 /// How many attributes a field or a method has.
 fn attribute_count(member: &Member) -> usize
+    requires { member_attributes member.now < 2 ^ 16 }
     ensures { result ≡ member_attributes member.now }
 {
     usize::from(member.value.is_some())

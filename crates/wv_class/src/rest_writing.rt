@@ -11,7 +11,8 @@ ghost use Rattle.wv_class.specs.Writing.{WritesRest};
 ghost use Rattle.wv_class.specs.Limits.{class_attributes};
 ghost use Rattle.wv_class.specs.Appending.{WritesParts};
 
-use crate::member_writing::{put_fields, put_methods, table_count};
+use crate::limits::table_count;
+use crate::member_writing::{put_fields, put_methods};
 use crate::note_writing::put_others;
 use crate::putting::{put_class, put_classes, put_number};
 use bitflags::Flags;

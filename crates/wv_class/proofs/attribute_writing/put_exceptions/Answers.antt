@@ -1,3 +1,4 @@
+use Rattle.std.proofs.Common.{arith}
 use Rattle.wv_class.proofs.NamedAttributes.{exceptions_named}
 use Rattle.wv_class.proofs.attribute_writing.put_exceptions.Goals as goal
 
