@@ -35,6 +35,7 @@ pub mod NeededLists
 pub mod NeededParts
 pub mod NoteTables
 pub mod Numbered
+pub mod OneFault
 pub mod ParameterCuts
 pub mod Parts
 pub mod Places
