@@ -41,6 +41,7 @@ pub mod NeededParts
 pub mod NoteTables
 pub mod Numbered
 pub mod OneMeaning
+pub mod OneFault
 pub mod ParameterCuts
 pub mod Parts
 pub mod Places
