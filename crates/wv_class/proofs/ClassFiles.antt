@@ -149,8 +149,7 @@ module _ (bytes : List ℕ) where
   stopped_fault left s =
       let sum : length bytes ≡ length s.front + length s.back = ap length s.parts ∙ length-append s.front s.back in
       let place : length s.front ≡ length bytes - left = omega (arith, sum, s.place) in
-      let front : take (length bytes - left) bytes ≡ s.front = ap (take (length bytes - left)) s.parts ∙ take_at s.front s.back (length bytes - left) place in
-      (
+      let front : take (length bytes - left) bytes ≡ s.front = ap (take (length bytes - left)) s.parts ∙ take_at s.front s.back (length bytes - left) place in (
         omega (arith, sum, s.place),
         record {
           within = omega arith;

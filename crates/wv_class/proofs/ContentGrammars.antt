@@ -141,22 +141,26 @@ some_code pool n low high =
 some_lists : (n : ℕ) → (n % 2 ≡ 1) ⊎ (11 ≤ n) → (count : ℕ) × (count < 256) × ElementsFill 0 0 0 count (n - 1)
 some_lists n is = elim (cases_lt n 14) [
   | inl small ↦ few n small is
-  | inr large ↦ (1, omega arith, spelled (record {
-    more = n - 3;
-    size = omega arith;
-    takes = record {
-      nothing = λ e. absurd (omega arith);
-      one = λ e. omega arith;
-      two = λ e. absurd (omega arith);
-      three = λ e. absurd (omega arith);
-      four = λ e. absurd (omega arith);
-      five = λ e. absurd (omega arith);
-      six = λ e. absurd (omega arith);
-      seven = λ e. absurd (omega arith);
-      nine = λ e. absurd (omega arith);
-      ten = λ e. absurd (omega arith);
-    };
-  }))
+  | inr large ↦ (
+    1,
+    omega arith,
+    spelled (record {
+      more = n - 3;
+      size = omega arith;
+      takes = record {
+        nothing = λ e. absurd (omega arith);
+        one = λ e. omega arith;
+        two = λ e. absurd (omega arith);
+        three = λ e. absurd (omega arith);
+        four = λ e. absurd (omega arith);
+        five = λ e. absurd (omega arith);
+        six = λ e. absurd (omega arith);
+        seven = λ e. absurd (omega arith);
+        nine = λ e. absurd (omega arith);
+        ten = λ e. absurd (omega arith);
+      };
+    }),
+  )
 ]
   where
     -- lists with nothing in them

@@ -73,9 +73,9 @@ module _ (pool : List PoolEntry) (len : ℕ) (bytes : List ℕ) (small : len < 2
       cut_stops pool kinds.Code len bytes small fits at f.within
       (λ some. let b = f.begun some in record { value = contents.Code b.raw; more = b.more; spelled = record { long = b.sized ∙ size; known = refl; is = b.content } })
       (λ lt b. f.none lt (
-          let s = b.spelled in
-          let c = code_of pool (length (take (at + 1) (take len bytes))) b.value (take (at + 1) (take len bytes) ++ b.more) s.known s.is in
-          record { raw = c.0; more = b.more; content = c.1; sized = s.long ∙ sym size }))
+      let s = b.spelled in
+      let c = code_of pool (length (take (at + 1) (take len bytes))) b.value (take (at + 1) (take len bytes) ++ b.more) s.known s.is in
+      record { raw = c.0; more = b.more; content = c.1; sized = s.long ∙ sym size }))
       (λ le x s. let c = code_of pool (length (take len bytes)) x (take len bytes) s.known s.is in f.no_content (omega arith) c.0 c.1)
 
 -- ---- annotations
@@ -113,16 +113,16 @@ module _ (pool : List PoolEntry) (visible : Bool) (len : ℕ) (bytes : List ℕ)
       let narrow : length (take len bytes) + (len - length bytes) < 2 ^ 32 = omega (arith, size, small) in
       cut_stops pool (kinds.Annotations visible) len bytes small fits at f.within
       (λ some.
-          let b = f.begins at some (omega arith) in
-          record {
-            value = contents.Annotations visible b.parts;
-            more = drop at (table_bytes b.parts);
-            spelled = record { long = parts_size (lists 1) (take len bytes) (len - length bytes) narrow at f.within b ∙ size; known = refl; is = parts_begin (lists 1) (take len bytes) (len - length bytes) narrow at f.within b };
-          })
+      let b = f.begins at some (omega arith) in
+      record {
+        value = contents.Annotations visible b.parts;
+        more = drop at (table_bytes b.parts);
+        spelled = record { long = parts_size (lists 1) (take len bytes) (len - length bytes) narrow at f.within b ∙ size; known = refl; is = parts_begin (lists 1) (take len bytes) (len - length bytes) narrow at f.within b };
+      })
       (λ lt b. f.none lt (
-          let s = b.spelled in
-          let c = parts_of pool visible (length (take (at + 1) (take len bytes))) b.value (take (at + 1) (take len bytes) ++ b.more) s.known s.is in
-          begins_parts (lists 1) (take len bytes) (len - length bytes) narrow (at + 1) (omega arith) c.0 b.more (s.long ∙ sym size) c.1))
+      let s = b.spelled in
+      let c = parts_of pool visible (length (take (at + 1) (take len bytes))) b.value (take (at + 1) (take len bytes) ++ b.more) s.known s.is in
+      begins_parts (lists 1) (take len bytes) (len - length bytes) narrow (at + 1) (omega arith) c.0 b.more (s.long ∙ sym size) c.1))
       (λ le x s.
-          let c = parts_of pool visible (length (take len bytes)) x (take len bytes) s.known s.is in
-          f.no_table (omega arith) c.0 (record { small = omega (arith, narrow); follows = c.1.follows; spelled = c.1.spelled }))
+      let c = parts_of pool visible (length (take len bytes)) x (take len bytes) s.known s.is in
+      f.no_table (omega arith) c.0 (record { small = omega (arith, narrow); follows = c.1.follows; spelled = c.1.spelled }))

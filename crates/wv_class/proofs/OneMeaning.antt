@@ -144,7 +144,7 @@ module _ (pool : List PoolEntry) where
         let notes : a.notes ≡ b.notes = notes_one raw.attributes a.notes b.notes h.notes k.notes in
         let kept : a.kept ≡ b.kept = h.kept ∙ sym k.kept in
         let whole : ◌≡◌ {A = Member} (record { flags = a.flags; name = a.name; descriptor = a.descriptor; body = a.body; value = a.value; throws = a.throws; notes = a.notes; kept = a.kept })
-            (record { flags = b.flags; name = b.name; descriptor = b.descriptor; body = b.body; value = b.value; throws = b.throws; notes = b.notes; kept = b.kept }) =
+        (record { flags = b.flags; name = b.name; descriptor = b.descriptor; body = b.body; value = b.value; throws = b.throws; notes = b.notes; kept = b.kept }) =
         cc (kind, name, descriptor, body, value, throws, notes, kept)
         in
         whole
@@ -169,7 +169,7 @@ one_meaning raw bytes s c d h k =
     let pool : c.pool ≡ d.pool = h.pool ∙ sym k.pool in
     let kept : c.kept ≡ d.kept = h.kept ∙ sym k.kept in
     let whole : ◌≡◌ {A = ClassFile} (record { version = c.version; flags = c.flags; name = c.name; superclass = c.superclass; interfaces = c.interfaces; fields = c.fields; methods = c.methods; notes = c.notes; pool = c.pool; kept = c.kept })
-        (record { version = d.version; flags = d.flags; name = d.name; superclass = d.superclass; interfaces = d.interfaces; fields = d.fields; methods = d.methods; notes = d.notes; pool = d.pool; kept = d.kept }) =
+    (record { version = d.version; flags = d.flags; name = d.name; superclass = d.superclass; interfaces = d.interfaces; fields = d.fields; methods = d.methods; notes = d.notes; pool = d.pool; kept = d.kept }) =
     cc (version, kind, name, superclass, interfaces, fields, methods, notes, pool, kept)
     in
     whole

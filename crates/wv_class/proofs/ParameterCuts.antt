@@ -90,8 +90,8 @@ module _ (pool : List PoolEntry) (visible : Bool) (len : ℕ) (bytes : List ℕ)
         (λ some. lists_begin place f.within (begins_at place place refl f.within start f))
         (λ lt b. f.none (omega arith) (begins_lists (place + 1) (omega arith) (subst (λ (k : ℕ). Begins Sized (take k (count ∷ rest))) further b)))
         (λ le x s.
-            let c = whole_lists x s in
-            f.no_table (omega arith) c.0 (record { small = omega (arith, rest_small); follows = c.1.follows; spelled = c.1.spelled }))
+        let c = whole_lists x s in
+        f.no_table (omega arith) c.0 (record { small = omega (arith, rest_small); follows = c.1.follows; spelled = c.1.spelled }))
 
   -- the bytes that are there have a count or none
   first_stops : (at : ℕ) → BreaksFirst (take len bytes) missing at → Stopped Sized bytes (length bytes - at)

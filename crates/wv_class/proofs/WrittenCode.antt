@@ -118,18 +118,18 @@ module _ (pool : List PoolEntry) (class : ℕ) (m : Member) where
         read.0,
         read.2,
         subst (λ (t : List ℕ). Of places.Method [] [] t notes kept (suc count) (front ++ bytes)) (append-nil read.0)
-        (one_before pool places.Method class (IsHeadOf pool m) (record { name = w.number; content = contents.Exceptions read.0 }) front [] (record { codes = []; values = []; exceptions = []; notes = notes; kept = kept }) count bytes
-        (λ near. record {
-          content = w.content;
-          short = w.short;
-          name = w.small;
-          known = exceptions_kind pool w.number w.named;
-          content_is = (read.1, read.3);
-          spelled = w.spelled;
-        })
-        (λ raw at head. never_numbers pool read.0 names 2 at read.2)
-        refl
-        others),
+            (one_before pool places.Method class (IsHeadOf pool m) (record { name = w.number; content = contents.Exceptions read.0 }) front [] (record { codes = []; values = []; exceptions = []; notes = notes; kept = kept }) count bytes
+            (λ near. record {
+              content = w.content;
+              short = w.short;
+              name = w.small;
+              known = exceptions_kind pool w.number w.named;
+              content_is = (read.1, read.3);
+              spelled = w.spelled;
+            })
+            (λ raw at head. never_numbers pool read.0 names 2 at read.2)
+            refl
+            others),
       )
 
   pub exceptions_before : (names : List (List ℕ)) (notes : List Note) (kept : List Attribute) (count : ℕ) (front bytes : List ℕ) → WritesExceptions pool names front → Of places.Method [] [] [] notes kept count bytes
@@ -210,7 +210,7 @@ module _ (pool : List PoolEntry) (class : ℕ) (m : Member) where
     raw_code owner body front owner_is described w ∷ [],
     code_means owner body front owner_is described w,
     subst (λ (n : ℕ). Of places.Method (raw_code owner body front owner_is described w ∷ []) values exceptions notes kept n (front ++ bytes)) (omega arith)
-    (code_named owner body front owner_is described w values exceptions notes kept count bytes others),
+        (code_named owner body front owner_is described w values exceptions notes kept count bytes others),
   )
 
   -- the value of a field

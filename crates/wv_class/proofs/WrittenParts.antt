@@ -94,12 +94,12 @@ module _ (pool : List PoolEntry) (place : Place) (class : ℕ) (Head : RawMember
   pub one_before : (a : RawAttribute) (front : List ℕ) (found : List Note) (parts : Parts) (count : ℕ) (bytes : List ℕ) → ((near : ℕ) → SpellsAttribute pool place near a front) → NeverBreaks pool class Head a → IsNotesOf pool a.content found
       → AreParts pool place class Head parts count bytes
       → AreParts pool place class Head (record {
-          codes = content_codes a.content ++ parts.codes;
-          values = content_values a.content ++ parts.values;
-          exceptions = content_exceptions a.content ++ parts.exceptions;
-          notes = found ++ parts.notes;
-          kept = kept_in pool a ++ parts.kept;
-        }) (suc count) (front ++ bytes)
+        codes = content_codes a.content ++ parts.codes;
+        values = content_values a.content ++ parts.values;
+        exceptions = content_exceptions a.content ++ parts.exceptions;
+        notes = found ++ parts.notes;
+        kept = kept_in pool a ++ parts.kept;
+      }) (suc count) (front ++ bytes)
   one_before a front found parts count bytes spelled sound notes others = record {
     all = a ∷ others.all;
     counted = ap suc others.counted;

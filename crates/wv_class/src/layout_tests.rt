@@ -79,8 +79,16 @@ fn attributes_of_a_field(rt: HostRuntime) -> Result<(), Fail> {
         ("Constant", &[0, 0, 0, 3, 0, 9, 9], None),
         ("RuntimeVisibleAnnotations", &[0, 0, 0, 2, 0, 0], None),
         ("RuntimeVisibleAnnotations", &[0, 0, 0, 3, 0, 0, 0], Some(3)),
-        ("RuntimeInvisibleAnnotations", &[0, 0, 0, 6, 0, 1, 0, 1, 0, 1], Some(9)),
-        ("RuntimeInvisibleAnnotations", &[0, 0, 0, 6, 0, 1, 0, 1, 0, 0], None),
+        (
+            "RuntimeInvisibleAnnotations",
+            &[0, 0, 0, 6, 0, 1, 0, 1, 0, 1],
+            Some(9),
+        ),
+        (
+            "RuntimeInvisibleAnnotations",
+            &[0, 0, 0, 6, 0, 1, 0, 1, 0, 0],
+            None,
+        ),
     ];
     for (name, attribute, want) in table {
         let mut class = begun(rt.alloc(), name)?;
@@ -102,11 +110,31 @@ fn attributes_of_a_method(rt: HostRuntime) -> Result<(), Fail> {
         ("Exceptions", &[0, 0, 0, 6, 0, 1, 0, 1, 0, 2], Some(5)),
         ("Exceptions", &[0, 0, 0, 5, 0, 2, 0, 1, 0], Some(3)),
         ("Exceptions", &[0, 2, 0, 2, 0, 2, 0, 1, 0], Some(3)),
-        ("Code", &[0, 0, 0, 11, 0, 0, 0, 0, 0, 0, 0, 0, 0, 0, 0], Some(3)),
-        ("Code", &[0, 0, 0, 12, 0, 0, 0, 0, 0, 0, 0, 0, 0, 0, 0, 0], None),
-        ("RuntimeVisibleParameterAnnotations", &[0, 0, 0, 10, 1], Some(3)),
-        ("RuntimeVisibleParameterAnnotations", &[0, 0, 0, 3, 1, 0, 0], None),
-        ("RuntimeInvisibleParameterAnnotations", &[0, 0, 0, 3, 2, 0, 0], Some(4)),
+        (
+            "Code",
+            &[0, 0, 0, 11, 0, 0, 0, 0, 0, 0, 0, 0, 0, 0, 0],
+            Some(3),
+        ),
+        (
+            "Code",
+            &[0, 0, 0, 12, 0, 0, 0, 0, 0, 0, 0, 0, 0, 0, 0, 0],
+            None,
+        ),
+        (
+            "RuntimeVisibleParameterAnnotations",
+            &[0, 0, 0, 10, 1],
+            Some(3),
+        ),
+        (
+            "RuntimeVisibleParameterAnnotations",
+            &[0, 0, 0, 3, 1, 0, 0],
+            None,
+        ),
+        (
+            "RuntimeInvisibleParameterAnnotations",
+            &[0, 0, 0, 3, 2, 0, 0],
+            Some(4),
+        ),
     ];
     for (name, attribute, want) in table {
         let mut class = begun(rt.alloc(), name)?;
