@@ -3,12 +3,10 @@ use Rattle.std.proofs.Common.{◌≡◌, ℕ, zero, suc, ◌+◌, ◌<◌, List,
 use Rattle.std.specs.List.{AllByRecursion}
 use Rattle.std.proofs.lemmas.List.{append-nil, take_more}
 use Rattle.wv_base.specs.declared.class_file.PoolEntry.{PoolEntry}
-use Rattle.wv_base.specs.declared.constant.Const.{Const}
 use Rattle.wv_base.specs.declared.constant.Const.TheVariants as constants
-use Rattle.wv_pool.specs.Entries.{number_bytes}
 use Rattle.wv_pool.specs.Numbers.{Named}
 use Rattle.wv_pool.proofs.Behind.{text_is, class_is}
-use Rattle.wv_class.specs.Appending.{Appends, WritesEach, WritesText, WritesClassName, WritesConstant, class_constants, WritesClasses}
+use Rattle.wv_class.specs.Appending.{Appends, WritesEach, WritesText, WritesClassName, WritesConstant, class_constants}
 
 pub written_as : (P Q : List ℕ → Type 0) (old new : List ℕ) → ((bytes : List ℕ) → P bytes → Q bytes) → Appends P old new → Appends Q old new
 written_as P Q old new f h = record { bytes = h.bytes; written = f h.bytes h.written; longer = h.longer }

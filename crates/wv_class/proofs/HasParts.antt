@@ -1,7 +1,7 @@
 -- Constants that a pool has with those behind them: it stays as it is where they are put into it.
-use Rattle.std.proofs.Common.{◌≡◌, ℕ, ◌+◌, ◌^◌, ◌<◌, Bool, true, false, List, [], ◌∷◌, ◌++◌, length, if◌then◌else◌, refl, sym, ap, subst, ◌∙◌, ◌⊎◌, inl, inr, arith}
+use Rattle.std.proofs.Common.{◌≡◌, ◌+◌, ◌^◌, ◌<◌, Bool, true, false, List, [], ◌∷◌, length, if◌then◌else◌, refl, subst, inl, inr}
 use Rattle.std.specs.Prelude.{◌==◌}
-use Rattle.std.specs.List.{flat_map, AllByRecursion}
+use Rattle.std.specs.List.{AllByRecursion}
 use Rattle.wv_base.specs.declared.class_file.PoolEntry.{PoolEntry}
 use Rattle.wv_base.specs.declared.constant.Const.{Const}
 use Rattle.wv_base.specs.declared.constant.Const.TheVariants as constants
@@ -48,13 +48,6 @@ each_named pool (c ∷ cs) h = (part_named pool c h.0, each_named pool cs h.1)
 pub parts_together : (pool : List PoolEntry) (cs : List Const) → AllByRecursion (HasParts pool) cs → AllByRecursion (Named pool) (parts_of cs)
 parts_together pool [] h = tt
 parts_together pool (c ∷ cs) h = all_append (Named pool) (parts_of cs) (needs c) (parts_together pool cs h.1) h.0
-
--- those of the first, and those of the others
-pub parts_front : (pool : List PoolEntry) (xs ys : List Const) → AllByRecursion (Named pool) (parts_of (xs ++ ys)) → AllByRecursion (Named pool) (parts_of xs)
-parts_front pool xs ys h = parts_together pool xs (all_front (HasParts pool) xs ys (each_has_parts pool (xs ++ ys) h))
-
-pub parts_back : (pool : List PoolEntry) (xs ys : List Const) → AllByRecursion (Named pool) (parts_of (xs ++ ys)) → AllByRecursion (Named pool) (parts_of ys)
-parts_back pool xs ys h = parts_together pool ys (all_back (HasParts pool) xs ys (each_has_parts pool (xs ++ ys) h))
 
 pub parts_named : (pool : List PoolEntry) (cs : List Const) → AllByRecursion (Named pool) (parts_of cs) → AllByRecursion (Named pool) cs
 parts_named pool cs h = each_named pool cs (each_has_parts pool cs h)

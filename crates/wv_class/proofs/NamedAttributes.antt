@@ -1,5 +1,5 @@
 -- Attributes with the names that the pool has.
-use Rattle.std.proofs.Common.{◌≡◌, ℕ, ◌+◌, ◌^◌, ◌<◌, List, [], ◌∷◌, ◌++◌, length, Option, Some, None, refl, sym, ap, subst, ◌∙◌, codes}
+use Rattle.std.proofs.Common.{◌≡◌, ℕ, List, [], ◌∷◌, Option, Some, refl, subst, codes}
 use Rattle.std.specs.List.{AllByRecursion}
 use Rattle.wv_base.specs.declared.class_file.PoolEntry.{PoolEntry}
 use Rattle.wv_base.specs.declared.class_file.Body.{Body}
@@ -9,7 +9,7 @@ use Rattle.wv_pool.specs.Numbers.{Named}
 use Rattle.wv_code.specs.BodyConstants.{body_constants}
 use Rattle.wv_class.specs.Needs.{parts_of, value_constants, code_constants, exceptions_constants}
 use Rattle.wv_class.specs.Appending.{WritesNamed, class_constants}
-use Rattle.wv_class.proofs.HasParts.{HasParts, each_has_parts, parts_together, parts_named, part_named}
+use Rattle.wv_class.proofs.HasParts.{each_has_parts, parts_together, parts_named, part_named}
 
 -- the same attribute, of whose content more is known
 pub content_as : (pool : List PoolEntry) (name bytes : List ℕ) (P Q : List ℕ → Type 0) → ((content : List ℕ) → P content → Q content) → WritesNamed pool name P bytes → WritesNamed pool name Q bytes

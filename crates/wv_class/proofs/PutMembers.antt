@@ -1,10 +1,9 @@
 -- Fields and methods, as they are put.
-use Rattle.std.proofs.Common.{◌≡◌, ℕ, zero, suc, ◌+◌, ◌^◌, ◌<◌, List, [], ◌∷◌, ◌++◌, length, get_or, Option, Some, None, refl, sym, ap, subst, ◌∙◌, append_assoc, inl, inr, arith}
+use Rattle.std.proofs.Common.{◌≡◌, ℕ, zero, suc, ◌^◌, ◌<◌, List, [], ◌∷◌, ◌++◌, length, get_or, Option, refl, sym, ap, subst, ◌∙◌, append_assoc, inl, inr, arith}
 use Rattle.std.specs.List.{AllByRecursion}
 use Rattle.std.proofs.lemmas.Bool.{cases_lt}
 use Rattle.wv_base.specs.declared.class_file.PoolEntry.{PoolEntry}
 use Rattle.wv_base.specs.declared.class_file.Member.{Member}
-use Rattle.wv_base.specs.declared.constant.Const.{Const}
 use Rattle.wv_base.specs.declared.constant.Const.TheVariants as constants
 use Rattle.wv_pool.specs.Entries.{number_bytes}
 use Rattle.wv_pool.specs.Numbers.{Named}
@@ -13,7 +12,7 @@ use Rattle.wv_code.proofs.Written.{all_front, all_back}
 use Rattle.wv_class.specs.Laid.{IsLaid, AreLaid}
 use Rattle.wv_class.specs.Limits.{member_attributes, HasLong}
 use Rattle.wv_class.specs.Needs.{parts_of, value_constants, code_constants, exceptions_constants, annotations_need, member_constants, member_needs}
-use Rattle.wv_class.specs.Appending.{Appends, WritesEach, WritesText, WritesValue, WritesCode, WritesExceptions, WritesOthers, WritesMember, WritesMembers}
+use Rattle.wv_class.specs.Appending.{Appends, WritesText, WritesValue, WritesCode, WritesExceptions, WritesOthers, WritesMember}
 use Rattle.wv_class.proofs.HasParts.{HasParts, part_named, each_has_parts, parts_together}
 
 -- a count that doesn't pass has two bytes
@@ -95,7 +94,7 @@ module _ (pool : List PoolEntry) (m : Member) (o0 o1 o2 o3 o4 o5 o6 o7 o8 : List
         longer = behind o0 o1 o8 flag (name.bytes ++ (descriptor.bytes ++ (counted ++ attributes))) head from_name;
       }
 
--- ---- All fields or all methods
+-- ---- All methods
 
 -- the layout of one of the methods
 pub layout_at : (pool : List PoolEntry) (methods : List Member) (layouts : List (Option CodeLayout)) (i : ℕ) (m : Member) (layout : Option CodeLayout) → i < length methods → m ≡ get_or methods i m → layout ≡ get_or layouts i layout
@@ -110,10 +109,3 @@ layouts_many pool [] [] laid = refl
 layouts_many pool [] (l ∷ layouts) laid = absurd laid
 layouts_many pool (n ∷ methods) [] laid = absurd laid
 layouts_many pool (n ∷ methods) (l ∷ layouts) laid = ap suc (layouts_many pool methods layouts laid.1)
-
-pub members_put : (pool : List PoolEntry) (members : List Member) (old middle new : List ℕ) → length members < 2 ^ 16 → middle ≡ old ++ number_bytes (length members) → Appends (WritesEach (WritesMember pool) members) middle new → Appends (WritesMembers pool members) old new
-members_put pool members old middle new few head each = record {
-  bytes = number_bytes (length members) ++ each.bytes;
-  written = record { few = few; items = each.bytes; each = each.written; spelled = refl };
-  longer = behind old middle new (number_bytes (length members)) each.bytes head each.longer;
-}

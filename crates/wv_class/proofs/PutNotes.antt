@@ -14,7 +14,7 @@ use Rattle.wv_pool.specs.Numbers.{Named}
 use Rattle.wv_attr.specs.declared.piece.Piece.{Piece}
 use Rattle.wv_attr.specs.Meanings.{AreRead, AreParametersRead}
 use Rattle.wv_attr.specs.Pieces.{list_pieces, pieces_size}
-use Rattle.wv_attr.specs.Writing.{IsFormed, piece_needs, pieces_need, notes_need, as_members, as_parameters, AreOrdered, is_place, by_place, lists_pieces, AreWritable, AreWritableOf, parameters_need}
+use Rattle.wv_attr.specs.Writing.{IsFormed, piece_needs, pieces_need, as_members, as_parameters, AreOrdered, is_place, by_place, lists_pieces, AreWritableOf, parameters_need}
 use Rattle.wv_code.proofs.Written.{all_front, all_back}
 use Rattle.wv_code.proofs.OffsetFrames.{all_append, grown_same, not_many}
 use Rattle.wv_class.specs.Tables.{tables_of, table_name}

@@ -1,7 +1,6 @@
 use Rattle.wv_pool.specs.Numbers.{Named}
 use Rattle.wv_code.specs.Constants.{all_constants}
 use Rattle.wv_code.specs.BodyConstants.{body_constants, other_constants}
-use Rattle.wv_code.specs.WritingBody.{WritesBody}
 use Rattle.wv_code.proofs.Written.{all_front}
 use Rattle.wv_class.proofs.HasParts.{each_has_parts, parts_named, enters_same, never_full, short_among}
 use Rattle.wv_class.proofs.attribute_writing.code_content.Goals as goal

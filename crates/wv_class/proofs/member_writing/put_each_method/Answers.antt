@@ -1,4 +1,4 @@
-use Rattle.std.proofs.Common.{◌∙◌, arith, sym, subst}
+use Rattle.std.proofs.Common.{◌∙◌, arith}
 use Rattle.wv_class.specs.Appending.{WritesMember}
 use Rattle.wv_class.proofs.Appended.{next_appended}
 use Rattle.wv_class.proofs.PutMembers.{layout_at, layouts_many}

@@ -1,7 +1,4 @@
-use Rattle.std.specs.List.{AllByRecursion}
 use Rattle.wv_pool.specs.Numbers.{Named}
-use Rattle.wv_class.specs.Needs.{head_constants}
-use Rattle.wv_class.specs.Appending.{IsWritableMember}
 use Rattle.wv_class.specs.declared.raw_class.Place.TheVariants as places
 use Rattle.wv_class.proofs.NeededParts.{class_head, class_annotations}
 use Rattle.wv_class.proofs.WritableMembers.{tables_writable, kept_room, fields_writable, fields_bodiless, methods_writable}
