@@ -299,9 +299,9 @@ module _ (pool : List PoolEntry) (types : List (Option FieldType)) (are : AreTyp
         }
       where
         starts : NamesClass pool class → NamesText pool m.name → IsText pool m.descriptor IsMethodDescriptor → ((frame : Frame) → StartsWith pool class m frame → ⊥) → ⊥
-        starts owner name d no =
+        starts owner name d never =
             let t = some_and (text_of pool m.descriptor) IsMethodDescriptor d in
-            no (start_frame (is_static m.flags) owner.0 name.0 t.2.0) (record {
+            never (start_frame (is_static m.flags) owner.0 name.0 t.2.0) (record {
               owner = owner.0;
               owner_is = owner.1;
               name = name.0;
