@@ -1,5 +1,5 @@
 -- What stands behind the pool names what it must, where none of it breaks.
-use Rattle.std.proofs.Common.{◌≡◌, ℕ, List, take, Option, Some, sym, subst}
+use Rattle.std.proofs.Common.{ℕ, List, take, Option}
 use Rattle.std.specs.List.{AllByRecursion}
 use Rattle.wv_base.specs.declared.class_file.PoolEntry.{PoolEntry}
 use Rattle.wv_base.specs.declared.descriptor.FieldType.{FieldType}
@@ -33,17 +33,17 @@ module _ (pool : List PoolEntry) (types : List (Option FieldType)) (are : AreTyp
   fields_read =
       all_from (IsRead pool c.class) c.fields
       (λ k m is.
-          let spelled = all_get (λ m. (near : ℕ) × (bytes : List ℕ) × SpellsMember pool places.Field near m bytes) c.fields k m (each_spelled (SpellsMember pool places.Field) _ c.fields s.fields.items s.fields.all) is in
-          field_read pool types are c.class m (take k c.fields) spelled.0 spelled.1 spelled.2
-          (each_unbroken member_len (fields_place c) c.fields (λ k m. FieldBreaks pool c.class (take k c.fields) m) (λ at b. none at (breaks.field b)) k m is))
+      let spelled = all_get (λ m. (near : ℕ) × (bytes : List ℕ) × SpellsMember pool places.Field near m bytes) c.fields k m (each_spelled (SpellsMember pool places.Field) _ c.fields s.fields.items s.fields.all) is in
+      field_read pool types are c.class m (take k c.fields) spelled.0 spelled.1 spelled.2
+      (each_unbroken member_len (fields_place c) c.fields (λ k m. FieldBreaks pool c.class (take k c.fields) m) (λ at b. none at (breaks.field b)) k m is))
 
   pub methods_read : AllByRecursion (IsRead pool c.class) c.methods
   methods_read =
       all_from (IsRead pool c.class) c.methods
       (λ k m is.
-          let spelled = all_get (λ m. (near : ℕ) × (bytes : List ℕ) × SpellsMember pool places.Method near m bytes) c.methods k m (each_spelled (SpellsMember pool places.Method) _ c.methods s.methods.items s.methods.all) is in
-          method_read pool types are c.class m (take k c.methods) spelled.0 spelled.1 class_named spelled.2
-          (each_unbroken member_len (methods_place c) c.methods (λ k m. MethodBreaks pool c.class (take k c.methods) m) (λ at b. none at (breaks.method b)) k m is))
+      let spelled = all_get (λ m. (near : ℕ) × (bytes : List ℕ) × SpellsMember pool places.Method near m bytes) c.methods k m (each_spelled (SpellsMember pool places.Method) _ c.methods s.methods.items s.methods.all) is in
+      method_read pool types are c.class m (take k c.methods) spelled.0 spelled.1 class_named spelled.2
+      (each_unbroken member_len (methods_place c) c.methods (λ k m. MethodBreaks pool c.class (take k c.methods) m) (λ at b. none at (breaks.method b)) k m is))
 
   pub attributes_read : HaveReadNotes pool c.attributes
   attributes_read = class_notes pool types are c.attributes (attributes_place c) (rest_attributes pool near c bytes s) (λ at b. none at (breaks.attribute b))

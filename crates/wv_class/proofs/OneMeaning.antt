@@ -1,5 +1,5 @@
 -- What a class file spells means one class.
-use Rattle.std.proofs.Common.{◌≡◌, ℕ, ◌+◌, List, [], ◌∷◌, ◌++◌, Option, Some, None, refl, sym, ap, subst, ◌∙◌}
+use Rattle.std.proofs.Common.{◌≡◌, ℕ, List, [], ◌∷◌, ◌++◌, Option, Some, None, refl, sym, ap, subst, ◌∙◌}
 use Rattle.std.specs.List.{AllZip, AllByRecursion}
 use Rattle.wv_base.specs.declared.access.AccessFlags.{AccessFlags}
 use Rattle.wv_base.specs.declared.class_file.PoolEntry.{PoolEntry}
@@ -10,7 +10,7 @@ use Rattle.wv_base.specs.declared.constant.Const.{Const}
 use Rattle.wv_base.specs.declared.frame.Frame.{Frame}
 use Rattle.wv_base.specs.declared.note.Note.{Note}
 use Rattle.wv_pool.specs.References.{text_of}
-use Rattle.wv_pool.specs.Constants.{class_name, constant_of}
+use Rattle.wv_pool.specs.Constants.{class_name}
 use Rattle.wv_code.specs.declared.raw_body.RawBody.{RawBody}
 use Rattle.wv_code.specs.Content.{IsContent}
 use Rattle.wv_code.specs.Body.{IsBodyOf}
@@ -26,7 +26,7 @@ use Rattle.wv_class.specs.declared.raw_class.RawClass.{RawClass}
 use Rattle.wv_class.specs.Layout.{IsClass}
 use Rattle.wv_class.specs.Breaks.{StartsWith}
 use Rattle.wv_class.specs.Checking.{IsSpelledContent, IsSpelledAttribute, IsSpelledMember}
-use Rattle.wv_class.specs.Meaning.{content_codes, codes_in, values_in, exceptions_in, kept_in, IsNotesOf, AreNotesOf, IsBodyIn, IsValueIn, AreClasses, IsMemberOf, AreMembersOf, IsClassOf, Spells}
+use Rattle.wv_class.specs.Meaning.{content_codes, codes_in, values_in, exceptions_in, IsNotesOf, AreNotesOf, IsBodyIn, IsValueIn, AreClasses, IsMemberOf, AreMembersOf, IsClassOf, Spells}
 use Rattle.wv_class.specs.Meaning as meaning
 use Rattle.wv_class.proofs.ClassFiles.{one_layout}
 use Rattle.wv_class.proofs.Lengths.{attribute_content, member_attributes}
@@ -144,7 +144,7 @@ module _ (pool : List PoolEntry) where
         let notes : a.notes ≡ b.notes = notes_one raw.attributes a.notes b.notes h.notes k.notes in
         let kept : a.kept ≡ b.kept = h.kept ∙ sym k.kept in
         let whole : ◌≡◌ {A = Member} (record { flags = a.flags; name = a.name; descriptor = a.descriptor; body = a.body; value = a.value; throws = a.throws; notes = a.notes; kept = a.kept })
-            (record { flags = b.flags; name = b.name; descriptor = b.descriptor; body = b.body; value = b.value; throws = b.throws; notes = b.notes; kept = b.kept }) =
+        (record { flags = b.flags; name = b.name; descriptor = b.descriptor; body = b.body; value = b.value; throws = b.throws; notes = b.notes; kept = b.kept }) =
         cc (kind, name, descriptor, body, value, throws, notes, kept)
         in
         whole
@@ -169,7 +169,7 @@ one_meaning raw bytes s c d h k =
     let pool : c.pool ≡ d.pool = h.pool ∙ sym k.pool in
     let kept : c.kept ≡ d.kept = h.kept ∙ sym k.kept in
     let whole : ◌≡◌ {A = ClassFile} (record { version = c.version; flags = c.flags; name = c.name; superclass = c.superclass; interfaces = c.interfaces; fields = c.fields; methods = c.methods; notes = c.notes; pool = c.pool; kept = c.kept })
-        (record { version = d.version; flags = d.flags; name = d.name; superclass = d.superclass; interfaces = d.interfaces; fields = d.fields; methods = d.methods; notes = d.notes; pool = d.pool; kept = d.kept }) =
+    (record { version = d.version; flags = d.flags; name = d.name; superclass = d.superclass; interfaces = d.interfaces; fields = d.fields; methods = d.methods; notes = d.notes; pool = d.pool; kept = d.kept }) =
     cc (version, kind, name, superclass, interfaces, fields, methods, notes, pool, kept)
     in
     whole
