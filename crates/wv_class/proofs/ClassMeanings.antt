@@ -1,5 +1,5 @@
 -- What stands behind the pool names what it must, where none of it breaks.
-use Rattle.std.proofs.Common.{◌≡◌, ℕ, List, take, Option, Some, sym, subst}
+use Rattle.std.proofs.Common.{ℕ, List, take, Option}
 use Rattle.std.specs.List.{AllByRecursion}
 use Rattle.wv_base.specs.declared.class_file.PoolEntry.{PoolEntry}
 use Rattle.wv_base.specs.declared.descriptor.FieldType.{FieldType}

@@ -1,6 +1,5 @@
 -- What reading a class finds and where it breaks.
-use Rattle.std.proofs.Common.{◌≡◌, ℕ, ◌+◌, ◌<◌, ◌≤◌, List, ◌++◌, length, Option, Some, None, refl, sym, ap, subst, ◌∙◌, arith}
-use Rattle.std.proofs.lemmas.List.{length-append}
+use Rattle.std.proofs.Common.{◌≡◌, ℕ, ◌+◌, ◌≤◌, List, length, Option, Some, None, refl, sym, subst, arith}
 use Rattle.wv_base.specs.declared.class_file.PoolEntry.{PoolEntry}
 use Rattle.wv_base.specs.declared.class_file.ClassFile.{ClassFile}
 use Rattle.wv_base.specs.declared.fault.ClassFault.{ClassFault}
@@ -12,7 +11,7 @@ use Rattle.wv_code.specs.Least.{IsLeastOf, Behind}
 use Rattle.wv_class.specs.declared.raw_class.RawClass.{RawClass}
 use Rattle.wv_class.specs.Meaning.{Spells, ClassBreaks}
 use Rattle.wv_class.specs.Reading.{PoolBreaks}
-use Rattle.wv_class.specs.Layout.{head_bytes, IsClass}
+use Rattle.wv_class.specs.Layout.{IsClass}
 use Rattle.wv_class.specs.Breaks.{RestBreaks, Breaks, pool, rest, FirstBreak, IsSound}
 use Rattle.wv_class.proofs.PoolBreaks.{break_within, one_break}
 
@@ -39,13 +38,6 @@ none_behind c b at d = b.least (8 + length (pool_bytes c.pool) + at) (at, d, ref
 pub class_sound : (c : RawClass) → IsPool c.pool → ((at : ℕ) → RestBreaks c.pool c.rest at → ⊥) → IsSound c
 class_sound c sound none _ (pool {at = other} d) = no_break c.pool other sound d
 class_sound c sound none _ (rest {at = other} d) = none other d
-
--- what stands behind the pool ends where the file does
-pub rest_ends : (c : RawClass) (bytes : List ℕ) (s : IsClass c bytes) → 8 + length (pool_bytes c.pool) + length s.rest ≡ length bytes
-rest_ends c bytes s =
-    let one = ap length s.spelled ∙ length-append (head_bytes c) (pool_bytes c.pool ++ s.rest) in
-    let two = length-append (pool_bytes c.pool) s.rest in
-    omega (arith, one, two)
 
 -- ---- faults
 

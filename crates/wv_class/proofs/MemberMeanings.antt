@@ -1,8 +1,8 @@
 -- The fields and methods that were read.
-use Rattle.std.proofs.Common.{◌≡◌, ℕ, ◌≤◌, List, [], ◌∷◌, ◌++◌, length, reverse, Option, Some, None, refl, sym, ap, subst, ◌∙◌, arith}
+use Rattle.std.proofs.Common.{◌≡◌, ℕ, List, [], ◌∷◌, ◌++◌, reverse, Option, Some, None, sym, subst, ◌∙◌}
 use Rattle.std.proofs.lemmas.List.{append_assoc, reverse-append}
 use Rattle.std.specs.Prelude.{IfSome}
-use Rattle.std.specs.List.{AllZip, AllByRecursion}
+use Rattle.std.specs.List.{AllByRecursion}
 use Rattle.wv_base.specs.declared.class_file.PoolEntry.{PoolEntry}
 use Rattle.wv_base.specs.declared.class_file.Body.{Body}
 use Rattle.wv_base.specs.declared.class_file.Member.{Member}
@@ -51,6 +51,3 @@ module _ (pool : List PoolEntry) (class : ℕ) where
       → (others : List RawMember) × (initial ≡ raws ++ others) × AreMembersOf pool class others (reverse (members ++ m ∷ []))
   members_more initial raws done raw members m parts are is =
       (raw ∷ done, parts ∙ append_assoc raws (raw ∷ []) done, subst (AreMembersOf pool class (raw ∷ done)) (sym (reverse-append members (m ∷ []))) (is, are))
-
-  pub members_all : (initial raws done : List RawMember) (members : List Member) → initial ≡ raws ++ done → raws ≡ [] → AreMembersOf pool class done (reverse members) → AreMembersOf pool class initial (reverse members)
-  members_all initial raws done members parts none are = subst (λ t. AreMembersOf pool class t (reverse members)) (sym (parts ∙ ap (λ t. t ++ done) none)) are

@@ -1,5 +1,5 @@
 -- What a class file spells means one class.
-use Rattle.std.proofs.Common.{◌≡◌, ℕ, ◌+◌, List, [], ◌∷◌, ◌++◌, Option, Some, None, refl, sym, ap, subst, ◌∙◌}
+use Rattle.std.proofs.Common.{◌≡◌, ℕ, List, [], ◌∷◌, ◌++◌, Option, Some, None, refl, sym, ap, subst, ◌∙◌}
 use Rattle.std.specs.List.{AllZip, AllByRecursion}
 use Rattle.wv_base.specs.declared.access.AccessFlags.{AccessFlags}
 use Rattle.wv_base.specs.declared.class_file.PoolEntry.{PoolEntry}
@@ -10,7 +10,7 @@ use Rattle.wv_base.specs.declared.constant.Const.{Const}
 use Rattle.wv_base.specs.declared.frame.Frame.{Frame}
 use Rattle.wv_base.specs.declared.note.Note.{Note}
 use Rattle.wv_pool.specs.References.{text_of}
-use Rattle.wv_pool.specs.Constants.{class_name, constant_of}
+use Rattle.wv_pool.specs.Constants.{class_name}
 use Rattle.wv_code.specs.declared.raw_body.RawBody.{RawBody}
 use Rattle.wv_code.specs.Content.{IsContent}
 use Rattle.wv_code.specs.Body.{IsBodyOf}
@@ -26,7 +26,7 @@ use Rattle.wv_class.specs.declared.raw_class.RawClass.{RawClass}
 use Rattle.wv_class.specs.Layout.{IsClass}
 use Rattle.wv_class.specs.Breaks.{StartsWith}
 use Rattle.wv_class.specs.Checking.{IsSpelledContent, IsSpelledAttribute, IsSpelledMember}
-use Rattle.wv_class.specs.Meaning.{content_codes, codes_in, values_in, exceptions_in, kept_in, IsNotesOf, AreNotesOf, IsBodyIn, IsValueIn, AreClasses, IsMemberOf, AreMembersOf, IsClassOf, Spells}
+use Rattle.wv_class.specs.Meaning.{content_codes, codes_in, values_in, exceptions_in, IsNotesOf, AreNotesOf, IsBodyIn, IsValueIn, AreClasses, IsMemberOf, AreMembersOf, IsClassOf, Spells}
 use Rattle.wv_class.specs.Meaning as meaning
 use Rattle.wv_class.proofs.ClassFiles.{one_layout}
 use Rattle.wv_class.proofs.Lengths.{attribute_content, member_attributes}

@@ -1,5 +1,5 @@
 -- Fields and methods in which each item meets what it must are read.
-use Rattle.std.proofs.Common.{◌≡◌, ℕ, zero, suc, ◌+◌, ◌-◌, ◌<◌, ◌≤◌, Bool, true, false, if◌then◌else◌, List, [], ◌∷◌, ◌++◌, length, take, Option, Some, None, refl, sym, ap, subst, ◌∙◌, inl, inr, ◌⊎◌, arith}
+use Rattle.std.proofs.Common.{◌≡◌, ℕ, zero, suc, ◌+◌, ◌-◌, ◌<◌, ◌≤◌, Bool, true, false, if◌then◌else◌, List, [], ◌∷◌, ◌++◌, length, take, Option, Some, None, refl, sym, ap, subst, ◌∙◌, inl, inr, arith}
 use Rattle.std.specs.Prelude.{IsTrue, slice_get, bytes_eq, codes}
 use Rattle.std.specs.Option.{IsSomeAnd}
 use Rattle.std.specs.List.{flat_map, sum_by, AllByRecursion}
@@ -26,7 +26,6 @@ use Rattle.wv_attr.specs.Groups.{Follows}
 use Rattle.wv_attr.specs.Layout.{lists}
 use Rattle.wv_attr.specs.Types.{AreTypes}
 use Rattle.wv_class.specs.declared.raw_class.Place.TheVariants as places
-use Rattle.wv_class.specs.declared.raw_class.Kind.{Kind}
 use Rattle.wv_class.specs.declared.raw_class.Kind.TheVariants as kinds
 use Rattle.wv_class.specs.declared.raw_class.Content.{Content}
 use Rattle.wv_class.specs.declared.raw_class.Content.TheVariants as contents
