@@ -54,6 +54,10 @@ pub mod RestPlaces
 pub mod SeenKeys
 pub mod ShallowParts
 pub mod Shorts
+pub mod SmallCode
+pub mod SmallCounts
+pub mod SmallNotes
+pub mod SmallReads
 pub mod StartFrames
 pub mod Times
 pub mod Unchanged

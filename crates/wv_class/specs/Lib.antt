@@ -24,3 +24,4 @@ pub mod FieldValue
 pub mod Enterable
 pub mod Appending
 pub mod Written
+pub mod Sizes
