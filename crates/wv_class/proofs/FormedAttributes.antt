@@ -1,21 +1,16 @@
 -- Attributes that are read can be written: annotations in tables, and those that are kept.
-use Rattle.std.proofs.Common.{◌≡◌, ℕ, zero, suc, ◌+◌, ◌-◌, ◌*◌, ◌<◌, ◌≤◌, ◌^◌, Bool, true, false, cond, if◌then◌else◌, List, [], ◌∷◌, ◌++◌, length, Option, Some, None, refl, sym, ap, subst, ◌∙◌, arith}
+use Rattle.std.proofs.Common.{◌≡◌, ℕ, zero, suc, ◌+◌, ◌-◌, ◌*◌, ◌<◌, ◌≤◌, ◌^◌, Bool, true, false, cond, if◌then◌else◌, List, [], ◌∷◌, length, Option, Some, None, refl, sym, ap, subst, ◌∙◌, arith}
 use Rattle.std.specs.Prelude.{IsTrue, bytes_eq, codes}
 use Rattle.std.specs.List.{flat_map, filter, sum_by, AllByRecursion}
 use Rattle.std.proofs.lemmas.Bool.{and_parts, leb-true}
 use Rattle.std.proofs.lemmas.List.{length-append}
 use Rattle.std.proofs.lemmas.List.Sums.{sum_by-cons}
 use Rattle.wv_base.specs.declared.class_file.PoolEntry.{PoolEntry}
-use Rattle.wv_base.specs.declared.class_file.Attribute.{Attribute}
 use Rattle.wv_base.specs.declared.note.Note.{Note}
 use Rattle.wv_pool.specs.References.{text_of, IsPool}
 use Rattle.wv_code.specs.Body.{kept_name}
-use Rattle.wv_code.specs.Content.{named_bytes}
 use Rattle.wv_code.proofs.OffsetFrames.{all_append}
-use Rattle.wv_attr.specs.declared.mark.Mark.{Mark}
-use Rattle.wv_attr.specs.Groups.{group}
-use Rattle.wv_attr.specs.Marks.{table_bytes}
-use Rattle.wv_attr.specs.Pieces.{annotation_pieces, annotation_depth, list_pieces, pieces_size}
+use Rattle.wv_attr.specs.Pieces.{annotation_pieces, list_pieces, pieces_size}
 use Rattle.wv_attr.specs.Writing.{IsFormed, AreShallow, AreWritable, AreOrdered, is_place, by_place, lists_pieces, AreWritableOf}
 use Rattle.wv_class.specs.declared.raw_class.Place.{Place}
 use Rattle.wv_class.specs.declared.raw_class.Place.TheVariants as places
@@ -24,7 +19,7 @@ use Rattle.wv_class.specs.declared.raw_class.Kind.TheVariants as kinds
 use Rattle.wv_class.specs.declared.raw_class.Content.{Content}
 use Rattle.wv_class.specs.declared.raw_class.Content.TheVariants as contents
 use Rattle.wv_class.specs.declared.raw_class.RawAttribute.{RawAttribute}
-use Rattle.wv_class.specs.Kinds.{annotations_kind, text_kind, kind_at, kind_of}
+use Rattle.wv_class.specs.Kinds.{text_kind, kind_at, kind_of}
 use Rattle.wv_class.specs.Layout.{SpellsContent, SpellsAttribute, SpellsAll, none, next}
 use Rattle.wv_class.specs.Breaks.{content_len, attribute_len}
 use Rattle.wv_class.specs.Tables.{parameters_follow, same, follows, with_tables, tables_of}
@@ -33,7 +28,7 @@ use Rattle.wv_class.specs.Meaning as meaning
 use Rattle.wv_class.specs.MemberRead.{HasReadNotes, HaveReadNotes}
 use Rattle.wv_class.specs.Formed.{IsFormedKept, AreFormedKept, IsFormedTableOf, IsFormedTable, AreFormedNotes}
 use Rattle.wv_class.proofs.FormedBodies.{kept_as}
-use Rattle.wv_class.proofs.FormedNotes.{Left, together, FitsPlace, IsGood, notes_size, notes_together, list_good, lists_good}
+use Rattle.wv_class.proofs.FormedNotes.{together, FitsPlace, IsGood, notes_size, notes_together, list_good, lists_good}
 
 -- ---- items, each within the bytes that are looked at
 

@@ -1,14 +1,12 @@
 -- A body that is read can be written: here one without frames and ranges.
-use Rattle.std.proofs.Common.{◌≡◌, ℕ, zero, suc, ◌+◌, ◌<◌, ◌≤◌, ◌^◌, Bool, true, false, cond, List, [], ◌∷◌, ◌++◌, length, refl, sym, ap, subst, ◌∙◌, arith}
+use Rattle.std.proofs.Common.{◌≡◌, ℕ, ◌+◌, ◌≤◌, Bool, true, false, cond, List, [], ◌∷◌, length, refl, sym, ap, subst, arith}
 use Rattle.std.specs.Prelude.{nat_le}
 use Rattle.std.specs.List.{flat_map, AllByRecursion}
 use Rattle.std.proofs.lemmas.Bool.{leb-true}
 use Rattle.wv_base.specs.declared.class_file.PoolEntry.{PoolEntry}
 use Rattle.wv_base.specs.declared.class_file.Attribute.{Attribute}
 use Rattle.wv_base.specs.declared.class_file.Body.{Body}
-use Rattle.wv_base.specs.declared.class_file.ExceptionRange.{ExceptionRange}
 use Rattle.wv_base.specs.declared.frame.Frame.{Frame}
-use Rattle.wv_base.specs.declared.frame.FrameAt.{FrameAt}
 use Rattle.wv_base.specs.declared.insn.Insn.{Insn}
 use Rattle.wv_insn.specs.declared.raw.Raw.{Raw}
 use Rattle.wv_pool.specs.References.{IsPool}

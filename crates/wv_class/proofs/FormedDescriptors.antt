@@ -12,7 +12,7 @@ use Rattle.wv_base.specs.Names.{is_class_name}
 use Rattle.wv_base.specs.Descriptor.{descriptor_of, IsFieldType, IsFieldDescriptor, IsClassConstant, IsMethodDescriptor}
 use Rattle.wv_base.specs.DescriptorReading.{field_at}
 use Rattle.wv_base.proofs.MethodTypes.{front_is, descriptor_cancel, no_result}
-use Rattle.wv_desc.specs.TypeOf.{IsFieldTypeOf, IsMethodTypeOf, HasResult}
+use Rattle.wv_desc.specs.TypeOf.{IsMethodTypeOf, HasResult}
 use Rattle.wv_desc.proofs.Reading.{HasRead, whole_is, nothing_whole, none_read_yet, read_one_more, not_begun, no_parameter, found_method, no_method}
 use Rattle.wv_attr.specs.Types.{IsTextType, IsEntryType, AreTypes}
 use Rattle.wv_class.proofs.MeaningParts.{Stable}

@@ -1,5 +1,5 @@
 -- Fields and methods that are read can be written.
-use Rattle.std.proofs.Common.{◌≡◌, ◌↔◌, ℕ, zero, suc, ◌+◌, ◌-◌, ◌*◌, ◌<◌, ◌≤◌, ◌^◌, Bool, true, false, if◌then◌else◌, List, [], ◌∷◌, ◌++◌, length, take, Option, Some, None, refl, sym, ap, subst, ◌∙◌, inl, inr, ◌⊎◌, arith}
+use Rattle.std.proofs.Common.{◌≡◌, ◌↔◌, ℕ, zero, suc, ◌+◌, ◌-◌, ◌<◌, ◌≤◌, ◌^◌, Bool, true, false, if◌then◌else◌, List, [], ◌∷◌, ◌++◌, length, take, Option, Some, None, refl, sym, ap, subst, ◌∙◌, inl, inr, arith}
 use Rattle.std.specs.Prelude.{IsTrue, slice_get, codes}
 use Rattle.std.specs.Option.{IsSomeAnd, option_map, option_and_then}
 use Rattle.std.specs.List.{flat_map, sum_by, AllZip, AllByRecursion}
@@ -8,7 +8,6 @@ use Rattle.std.proofs.lemmas.List.{length-append}
 use Rattle.std.proofs.lemmas.List.Sums.{sum_by-cons}
 use Rattle.std.proofs.lemmas.Option.{none-some}
 use Rattle.wv_base.specs.declared.class_file.PoolEntry.{PoolEntry}
-use Rattle.wv_base.specs.declared.class_file.PoolEntry.TheVariants as entries
 use Rattle.wv_base.specs.declared.class_file.Body.{Body}
 use Rattle.wv_base.specs.declared.class_file.Member.{Member}
 use Rattle.wv_base.specs.declared.constant.Const.{Const}
@@ -17,7 +16,7 @@ use Rattle.wv_base.specs.Names.{is_unqualified, is_method_name, is_class_name}
 use Rattle.wv_base.specs.Descriptor.{IsFieldDescriptor, IsMethodDescriptor, HasWords}
 use Rattle.wv_pool.specs.Allowed.{IsClassText}
 use Rattle.wv_pool.specs.References.{entry_of, text_of, class_of, IsText, IsPool}
-use Rattle.wv_pool.specs.Constants.{class_name, constant_in, constant_of}
+use Rattle.wv_pool.specs.Constants.{class_name, constant_in}
 use Rattle.wv_pool.proofs.Behind.{some_is, then_some}
 use Rattle.wv_pool.proofs.SoundPools.{class_entry}
 use Rattle.wv_code.specs.declared.raw_body.RawBody.{RawBody}
@@ -36,7 +35,7 @@ use Rattle.wv_class.specs.Kinds.{kind_of}
 use Rattle.wv_class.specs.Layout.{SpellsTable, SpellsAttribute, SpellsMember}
 use Rattle.wv_class.specs.Breaks.{attribute_len, member_len, NamesPlainClass, FitsField, IsValueOf, ContentBreaks, is_code, AttributeBreaks, AttributesBreak, IsAgain, IsInitializer, HasItsCode, FieldBreaks, MethodBreaks}
 use Rattle.wv_class.specs.Breaks as breaks
-use Rattle.wv_class.specs.Meaning.{content_codes, content_values, content_exceptions, kept_in, codes_in, values_in, exceptions_in, IsBodyIn, IsValueIn, AreClasses, IsMemberOf, AreMembersOf}
+use Rattle.wv_class.specs.Meaning.{content_codes, content_values, content_exceptions, codes_in, values_in, exceptions_in, IsBodyIn, IsValueIn, AreClasses, IsMemberOf, AreMembersOf}
 use Rattle.wv_class.specs.MemberRead.{HasReadCode, IsRead}
 use Rattle.wv_class.specs.Formed.{AreFormedKept, AreFormedNotes, AreDistinct, IsFormedValue, IsFormedField, HasFormedBody, IsFormedInitializer, IsFormedWidth, IsFormedMethod, IsFormedClassName}
 use Rattle.wv_class.proofs.FieldValues.{small_fits, float_fits, long_fits, double_fits, string_fits}

@@ -1,5 +1,5 @@
 -- Annotations that are read are made of parts that can be written, and nest no deeper than they may.
-use Rattle.std.proofs.Common.{◌≡◌, ℕ, zero, suc, ◌+◌, ◌-◌, ◌<◌, ◌≤◌, ◌^◌, Bool, true, false, List, [], ◌∷◌, ◌++◌, length, map, Option, Some, None, refl, sym, ap, subst, ◌∙◌, arith}
+use Rattle.std.proofs.Common.{◌≡◌, ℕ, zero, suc, ◌+◌, ◌-◌, ◌<◌, ◌≤◌, Bool, true, false, List, [], ◌∷◌, ◌++◌, length, Option, Some, None, refl, sym, ap, subst, ◌∙◌, arith}
 use Rattle.std.specs.Prelude.{IsTrue, codes}
 use Rattle.std.specs.Option.{IsSomeAnd, option_map}
 use Rattle.std.specs.List.{flat_map, AllByRecursion}
@@ -34,7 +34,7 @@ use Rattle.wv_attr.specs.Groups.{kind_of, group, behind, less, IsShallow, Follow
 use Rattle.wv_attr.specs.References.{IsClassDescriptor, IsClassValue, has_tag, IsSound}
 use Rattle.wv_attr.specs.Meanings.{class_descriptor, IsValue, AreValues, IsAnnotation, IsPair, ArePairs, AreNotes, IsNoteList, AreListed}
 use Rattle.wv_attr.specs.Meanings as meanings
-use Rattle.wv_attr.specs.Pieces.{value_pieces, annotation_pieces, pair_pieces, value_depth, annotation_depth, pair_depth, most, piece_size, pieces_size}
+use Rattle.wv_attr.specs.Pieces.{value_pieces, annotation_pieces, pair_pieces, value_depth, annotation_depth, pair_depth, piece_size, pieces_size}
 use Rattle.wv_attr.specs.Writing.{fits_tag, IsFormed}
 use Rattle.wv_attr.proofs.Filling.{long_mark, table-cons}
 use Rattle.wv_attr.proofs.Leading.{same_front, past_over}

@@ -1,13 +1,13 @@
 -- A pool in which nothing breaks what it must meet is sound.
-use Rattle.std.proofs.Common.{◌≡◌, ◌≢◌, ℕ, ◌+◌, ◌≤◌, List, [], ◌∷◌, ◌++◌, length, Option, Some, None, refl, sym, ◌∙◌, append_assoc, inl, inr, ◌⊎◌}
+use Rattle.std.proofs.Common.{◌≡◌, ◌≢◌, ℕ, ◌≤◌, List, [], ◌∷◌, ◌++◌, Option, Some, None, refl, sym, ◌∙◌, append_assoc, inl, inr, ◌⊎◌}
 use Rattle.std.specs.Prelude.{IsTrue, IfSome, codes}
 use Rattle.std.specs.Option.{IsSomeAnd}
-use Rattle.std.specs.List.{flat_map, AllByRecursion}
+use Rattle.std.specs.List.{AllByRecursion}
 use Rattle.wv_base.specs.declared.class_file.PoolEntry.{PoolEntry}
 use Rattle.wv_base.specs.declared.class_file.PoolEntry.TheVariants as entries
 use Rattle.wv_base.specs.Names.{is_unqualified}
 use Rattle.wv_base.specs.Descriptor.{IsFieldDescriptor, IsMethodDescriptor, IsClassConstant}
-use Rattle.wv_pool.specs.Entries.{entry_bytes, IsLayout}
+use Rattle.wv_pool.specs.Entries.{IsLayout}
 use Rattle.wv_pool.specs.References.{entry_of, text_of, class_of, pair_of, pair_name, IsText, HasAngle, IsInit, IsSpecial, KindFits, IsMember, FirstHolds, SecondHolds, second_place, IsSound, FirstBreaks, IsPool}
 use Rattle.wv_code.proofs.OffsetFrames.{all_append}
 use Rattle.wv_class.proofs.MeaningParts.{Stable, true_stable, some_stable, text_stable}

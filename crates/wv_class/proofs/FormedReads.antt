@@ -1,7 +1,6 @@
 -- A small class that is read, without frames and ranges, can be written.
 use Rattle.std.proofs.Common.{◌≡◌, ℕ, ◌+◌, ◌-◌, ◌*◌, ◌<◌, ◌≤◌, ◌^◌, List, [], ◌∷◌, ◌++◌, length, take, refl, sym, ap, subst, ◌∙◌, arith}
-use Rattle.std.specs.Prelude.{slice_get}
-use Rattle.std.specs.List.{sum_by, AllZip, AllByRecursion}
+use Rattle.std.specs.List.{sum_by, AllByRecursion}
 use Rattle.std.proofs.lemmas.List.{length-append}
 use Rattle.std.proofs.lemmas.List.Sums.{sum_by-cons}
 use Rattle.wv_base.specs.declared.class_file.PoolEntry.{PoolEntry}
@@ -17,7 +16,7 @@ use Rattle.wv_class.specs.declared.raw_class.RawClass.{RawClass}
 use Rattle.wv_class.specs.Layout.{SpellsAttribute, SpellsMember, SpellsRest, IsClass, numbers_bytes, head_bytes}
 use Rattle.wv_class.specs.Breaks.{attribute_len, member_len, NamesPlainClass, IsAgain, FieldBreaks, MethodBreaks, fields_place, methods_place, RestBreaks, IsSound}
 use Rattle.wv_class.specs.Breaks as breaks
-use Rattle.wv_class.specs.Meaning.{AreClasses, IsMemberOf, AreMembersOf, IsClassOf, Spells}
+use Rattle.wv_class.specs.Meaning.{AreClasses, AreMembersOf, IsClassOf, Spells}
 use Rattle.wv_class.specs.MemberRead.{IsRead}
 use Rattle.wv_class.specs.Formed.{AreFormedKept, AreFormedNotes, AreDistinct, IsFormedField, IsFormedMethod, IsFormedClassName, IsFormedClass}
 use Rattle.wv_class.proofs.ClassMeanings.{fields_read, methods_read, attributes_read}
