@@ -20,7 +20,14 @@ pub mod Enough
 pub mod EnterableMembers
 pub mod Exits
 pub mod FieldValues
+pub mod FormedAttributes
+pub mod FormedBodies
+pub mod FormedDescriptors
+pub mod FormedMembers
 pub mod FormedMethods
+pub mod FormedNotes
+pub mod FormedPools
+pub mod FormedReads
 pub mod Grammars
 pub mod Growth
 pub mod HasParts
@@ -40,8 +47,8 @@ pub mod NeededLists
 pub mod NeededParts
 pub mod NoteTables
 pub mod Numbered
-pub mod OneMeaning
 pub mod OneFault
+pub mod OneMeaning
 pub mod ParameterCuts
 pub mod Parts
 pub mod Places
@@ -64,8 +71,8 @@ pub mod Unchanged
 pub mod Values
 pub mod Widths
 pub mod Words
-pub mod WrittenAttributes
 pub mod WritableMembers
+pub mod WrittenAttributes
 pub mod WrittenClass
 pub mod WrittenCode
 pub mod WrittenNotes
