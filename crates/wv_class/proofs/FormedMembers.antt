@@ -47,9 +47,9 @@ use Rattle.wv_class.proofs.FormedNotes.{text_short, text_meets}
 use Rattle.wv_class.proofs.FormedAttributes.{Placed, each_placed, StandsOnField, StandsOnMethod, Stands, attribute_stands, attributes_notes, notes_written, kept_written}
 
 -- a body without frames and ranges
-abbrev pub HasNoFrames : Option Body → Type 0
-HasNoFrames None = Unit {0}
-HasNoFrames (Some body) = (body.frames ≡ []) × (body.ranges ≡ [])
+abbrev pub IsStraight : Option Body → Type 0
+IsStraight None = Unit {0}
+IsStraight (Some body) = (body.frames ≡ []) × (body.ranges ≡ [])
 
 -- ---- lists
 
@@ -294,7 +294,7 @@ module _ (pool : List PoolEntry) (whole : IsPool pool) where
 
     -- ---- methods
 
-    bodies_formed : (raws : List RawBody) (body : Option Body) → IsBodyIn pool class raw raws body → length raws ≡ (if is_bodiless raw.flags then 0 else 1) → AllByRecursion (HasReadCode pool class raw) raws → HasNoFrames body → HasFormedBody pool (is_bodiless raw.flags) body
+    bodies_formed : (raws : List RawBody) (body : Option Body) → IsBodyIn pool class raw raws body → length raws ≡ (if is_bodiless raw.flags then 0 else 1) → AllByRecursion (HasReadCode pool class raw) raws → IsStraight body → HasFormedBody pool (is_bodiless raw.flags) body
     bodies_formed [] None h e read plain = none_bodiless (is_bodiless raw.flags) e
     bodies_formed [] (Some body) h e read plain = absurd h
     bodies_formed (r ∷ []) None h e read plain = absurd h
@@ -323,7 +323,7 @@ module _ (pool : List PoolEntry) (whole : IsPool pool) where
           subst (λ (f : ℕ). is_abstract f ≡ false) (sym means.flags) r.3,
         )
 
-    pub method_formed : (before : List RawMember) → Placed (SpellsMember pool places.Method) raw → ((at : ℕ) → MethodBreaks pool class before raw at → ⊥) → IsRead pool class raw → member_len raw < 2 ^ 16 → HasNoFrames m.body → IsFormedMethod pool m
+    pub method_formed : (before : List RawMember) → Placed (SpellsMember pool places.Method) raw → ((at : ℕ) → MethodBreaks pool class before raw at → ⊥) → IsRead pool class raw → member_len raw < 2 ^ 16 → IsStraight m.body → IsFormedMethod pool m
     method_formed before spelled none read small plain =
         let p = attributes_placed pool places.Method raw spelled in
         let st = all_stand pool places.Method raw.attributes p in

@@ -20,17 +20,18 @@ use Rattle.wv_class.specs.Meaning.{AreClasses, AreMembersOf, IsClassOf, Spells}
 use Rattle.wv_class.specs.MemberRead.{IsRead}
 use Rattle.wv_class.specs.Formed.{AreFormedKept, AreFormedNotes, AreDistinct, IsFormedField, IsFormedMethod, IsFormedClassName, IsFormedClass}
 use Rattle.wv_class.proofs.ClassMeanings.{fields_read, methods_read, attributes_read}
+use Rattle.wv_class.specs.Sizes.{HasNoFrames, HasNoRanges, HaveNoFrames, HaveNoRanges}
 use Rattle.wv_class.proofs.Lengths.{rest_spelled}
 use Rattle.wv_class.proofs.Numbered.{numbers_long}
 use Rattle.wv_class.proofs.ReadMembers.{each_unbroken, all_from}
 use Rattle.wv_class.proofs.FormedDescriptors.{types_there}
 use Rattle.wv_class.proofs.FormedPools.{pool_sound}
 use Rattle.wv_class.proofs.FormedAttributes.{Placed, attributes_notes, notes_written, kept_written}
-use Rattle.wv_class.proofs.FormedMembers.{HasNoFrames, table_placed, plain_name, field_formed, method_formed, distinct_formed}
+use Rattle.wv_class.proofs.FormedMembers.{IsStraight, table_placed, plain_name, field_formed, method_formed, distinct_formed}
 
 -- no body has frames or ranges
-abbrev pub HaveNoFrames : ClassFile → Type 0
-HaveNoFrames c = AllByRecursion (λ (m : Member). HasNoFrames m.body) c.methods
+abbrev pub AreStraight : ClassFile → Type 0
+AreStraight c = AllByRecursion (λ (m : Member). IsStraight m.body) c.methods
 
 -- ---- lists
 
@@ -58,7 +59,7 @@ module _ (pool : List PoolEntry) (whole : IsPool pool) (class : ℕ) where
       (field_formed pool whole class raw m are.0 none.0.0 p.0 none.0.1 read.0 small.0, fields_formed raws members are.1 p.1 none.1 read.1 small.1)
 
   methods_formed : (raws : List RawMember) (members : List Member) → AreMembersOf pool class raws members → AllByRecursion (Placed (SpellsMember pool places.Method)) raws → AllByRecursion MethodUnbroken raws → AllByRecursion (IsRead pool class) raws
-      → AllByRecursion (λ (m : RawMember). member_len m < 2 ^ 16) raws → AllByRecursion (λ (m : Member). HasNoFrames m.body) members → AllByRecursion (IsFormedMethod pool) members
+      → AllByRecursion (λ (m : RawMember). member_len m < 2 ^ 16) raws → AllByRecursion (λ (m : Member). IsStraight m.body) members → AllByRecursion (IsFormedMethod pool) members
   methods_formed [] [] are p none read small plain = tt
   methods_formed [] (m ∷ members) are p none read small plain = absurd are
   methods_formed (raw ∷ raws) [] are p none read small plain = absurd are
@@ -97,7 +98,7 @@ module _ (pool : List PoolEntry) (near : ℕ) (c : RawRest) (bytes : List ℕ) (
 
 -- ---- the class
 
-module _ (bytes : List ℕ) (c : ClassFile) (raw : RawClass) (layout : IsClass raw bytes) (sound : IsSound raw) (means : IsClassOf raw c) (small : length bytes < 2 ^ 16) (plain : HaveNoFrames c) where
+module _ (bytes : List ℕ) (c : ClassFile) (raw : RawClass) (layout : IsClass raw bytes) (sound : IsSound raw) (means : IsClassOf raw c) (small : length bytes < 2 ^ 16) (plain : AreStraight c) where
   abbrev pool : List PoolEntry
   pool = raw.pool
 
@@ -189,6 +190,17 @@ module _ (bytes : List ℕ) (c : ClassFile) (raw : RawClass) (layout : IsClass r
         kept = subst (λ (p : List PoolEntry). AreFormedKept p places.Class c.kept) there kept;
       }
 
+straight : (ms : List Member) → AllByRecursion (λ (m : Member). HasNoFrames m.body) ms → AllByRecursion (λ (m : Member). HasNoRanges m.body) ms → AllByRecursion (λ (m : Member). IsStraight m.body) ms
+straight [] frames ranges = tt
+straight (m ∷ ms) (frames, others) (ranges, more) = (one m.body frames ranges, straight ms others more)
+  where
+    one : (body : Option Body) → HasNoFrames body → HasNoRanges body → IsStraight body
+    one None frames ranges = tt
+    one (Some body) frames ranges = (frames, ranges)
+
+straight_formed : (bytes : List ℕ) (c : ClassFile) → Spells bytes c → length bytes < 2 ^ 16 → AreStraight c → IsFormedClass c
+straight_formed bytes c s small plain = formed bytes c s.raw s.layout s.sound s.means small plain
+
 -- What is read can be written.
-pub read_formed : (bytes : List ℕ) (c : ClassFile) → Spells bytes c → length bytes < 2 ^ 16 → HaveNoFrames c → IsFormedClass c
-read_formed bytes c s small plain = formed bytes c s.raw s.layout s.sound s.means small plain
+pub read_formed : (bytes : List ℕ) (c : ClassFile) → Spells bytes c → length bytes < 2 ^ 16 → HaveNoFrames c → HaveNoRanges c → IsFormedClass c
+read_formed bytes c s small frames ranges = straight_formed bytes c s small (straight c.methods frames ranges)

@@ -13,6 +13,17 @@ abbrev pub HasNoFrames : Option Body → Type 0
 HasNoFrames None = Unit {0}
 HasNoFrames (Some body) = body.frames ≡ []
 
+abbrev pub HaveNoFrames : ClassFile → Type 0
+HaveNoFrames c = AllByRecursion (λ (m : Member). HasNoFrames m.body) c.methods
+
+-- nothing is caught
+abbrev pub HasNoRanges : Option Body → Type 0
+HasNoRanges None = Unit {0}
+HasNoRanges (Some body) = body.ranges ≡ []
+
+abbrev pub HaveNoRanges : ClassFile → Type 0
+HaveNoRanges c = AllByRecursion (λ (m : Member). HasNoRanges m.body) c.methods
+
 abbrev pub HasFewInsns : ℕ → Option Body → Type 0
 HasFewInsns n None = Unit {0}
 HasFewInsns n (Some body) = length body.insns ≤ n

@@ -50,7 +50,7 @@ mod verification_type;
 mod writing;
 
 pub use formed::is_formed;
-pub use laws::one_class;
+pub use laws::{few_bytes, one_class, one_fault};
 pub use reading::read_class;
 pub use writing::write_class;
 
