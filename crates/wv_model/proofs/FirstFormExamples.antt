@@ -1,26 +1,11 @@
--- The example's code has these bytes, and a typing where two words fit the stack.
+-- The example's code has a typing where two words fit the stack.
 use Rattle.std.proofs.Common.{◌≤◌, ℕ, refl, arith, [], ◌∷◌, pos}
 use Rattle.wv_base.specs.declared.frame.VType.TheVariants as types
 use Rattle.wv_base.specs.declared.insn.Insn.TheVariants as insns
 use Rattle.wv_base.specs.Opcodes.{bipush, return, getstatic, invokevirtual}
-use Rattle.wv_model.specs.FirstFormExamples.{print_pool, print_seven, print_seven_bytes, refer}
-use Rattle.wv_model.specs.PlainCode.{system_out, println, SpellsCode, SpellsInsn}
+use Rattle.wv_model.specs.FirstFormExamples.{print_seven, refer}
+use Rattle.wv_model.specs.PlainCode.{system_out, println}
 use Rattle.wv_model.specs.PlainTyping.{Leads, HasTyping, print_stream, push, returned, read_out, printed}
-
-get_spelled : SpellsInsn print_pool (refer getstatic system_out) (0xB2 ∷ 0x00 ∷ 0x01 ∷ [])
-get_spelled = (1, (2, 3, refl, ((4, refl, refl), (5, 6, refl, refl, refl))), refl)
-
-print_spelled : SpellsInsn print_pool (refer invokevirtual println) (0xB6 ∷ 0x00 ∷ 0x07 ∷ [])
-print_spelled = (7, (8, 9, refl, ((10, refl, refl), (11, 12, refl, refl, refl))), refl)
-
-pub print_seven-spelled : SpellsCode print_pool print_seven print_seven_bytes
-print_seven-spelled =
-    record {
-      parts = (0xB2 ∷ 0x00 ∷ 0x01 ∷ []) ∷ (0x10 ∷ 0x07 ∷ []) ∷ (0xB6 ∷ 0x00 ∷ 0x07 ∷ []) ∷ (0xB1 ∷ []) ∷ [];
-      each = (get_spelled, (refl, (print_spelled, (refl, tt))));
-      joined = refl;
-      short = omega arith;
-    }
 
 gets : Leads (refer getstatic system_out) [] (print_stream ∷ [])
 gets = record { taken = []; put = print_stream ∷ []; rest = []; row = read_out refl; from = refl; to = refl }

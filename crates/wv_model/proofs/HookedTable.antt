@@ -10,7 +10,7 @@ use Rattle.wv_base.specs.declared.class_file.Member.{Member}
 use Rattle.wv_base.specs.declared.insn.Insn.{Insn}
 use Rattle.wv_model.specs.FormDomain.{MethodId, Start, At}
 use Rattle.wv_model.specs.Linking.{method_shape}
-use Rattle.wv_model.specs.PlainClass.{AreSame}
+use Rattle.wv_model.specs.PlainMethod.{AreSame}
 use Rattle.wv_model.specs.PlainCode.{Game}
 use Rattle.wv_model.specs.PlainMachine.{item, code_of, body_of, shape_of}
 use Rattle.wv_model.specs.MemberTable.{IsMember, replaced, unchanged, IsTable, overwritten, body_in_target, read_in_target}

@@ -9,8 +9,6 @@ pub mod EndsWell
 pub mod ThreadsLift
 pub mod Limit
 pub mod FirstFormExamples
-pub mod SmallClass
-pub mod FirstPlace
 pub mod FormFrames
 pub mod HookedTable
 pub mod Lockstep
@@ -18,7 +16,3 @@ pub mod PlainSafety
 pub mod HookSafety
 pub mod FirstMeaning
 pub mod MeaningExamples
-pub mod OnePool
-pub mod OneCode
-pub mod OneClass
-pub mod PlaceOrder

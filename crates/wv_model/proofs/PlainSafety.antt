@@ -22,7 +22,7 @@ use Rattle.wv_model.specs.Entries.{Entry, Program, Method, IsFormEntry, main_des
 use Rattle.wv_model.specs.Machine.{after}
 use Rattle.wv_model.specs.FormDomain.{Value, Answer, Int, Reference, SystemOut, Null, Place, MethodId, Start, At, Shared, Unlinked, form, form_rules}
 use Rattle.wv_model.specs.Linking.{ClassShape, MethodShape, class_named, method_named, is_static, method_shape}
-use Rattle.wv_model.specs.PlainClass.{IsPlainBody, IsPlainMethod}
+use Rattle.wv_model.specs.PlainMethod.{IsPlainBody, IsGameMethod}
 use Rattle.wv_model.specs.PlainCode.{Game, class_name, system_out, println, IsPlainInsn, IsPlainReference, IsOwnMethod}
 use Rattle.wv_model.specs.PlainMachine.{item, code_of, body_of, frame_at, plain_control, plain_machine, plain_start, shape_of}
 use Rattle.wv_model.specs.PlainRows.{insn_row, row_at, plain_effect, arguments, called, once_begun, found_effect, static_effect, reference_row, dropped, combined, println_row, push_effect}
@@ -33,7 +33,7 @@ use Rattle.wv_model.specs.PlainTyping.{Stack, Leads, HasTyping}
 -- code from a place on, with a typing, whose last instruction is `return`
 pub data TypedCode : List Insn → Stack → Type 0 where
   at_return : {stack : Stack} → TypedCode (insns.Plain return ∷ []) stack
-  ahead : {insn : Insn} {code : List Insn} {before after : Stack} → IsPlainInsn Game insn → Leads insn before after → TypedCode code after → TypedCode (insn ∷ code) before
+  ahead : {insn : Insn} {code : List Insn} {before after : Stack} → IsPlainInsn Game (class_name Game) insn → Leads insn before after → TypedCode code after → TypedCode (insn ∷ code) before
 
 -- a value of a type, and a stack of values of these types
 abbrev pub FitsType : VType → Value → Type 0
@@ -41,18 +41,18 @@ FitsType types.Int (Int number) = Unit {0}
 FitsType (types.Class name) (Reference SystemOut) = Unit {0}
 FitsType _ _ = ⊥
 
-typed_from : (front : List Insn) (before : Stack) (later : List Stack) → AllByRecursion (IsPlainInsn Game) (front ++ (insns.Plain return ∷ [])) → AllZip (λ insn states. Leads insn states.0 states.1) (front ++ (insns.Plain return ∷ [])) (zip (before ∷ later) later) → TypedCode (front ++ (insns.Plain return ∷ [])) before
+typed_from : (front : List Insn) (before : Stack) (later : List Stack) → AllByRecursion (IsPlainInsn Game (class_name Game)) (front ++ (insns.Plain return ∷ [])) → AllZip (λ insn states. Leads insn states.0 states.1) (front ++ (insns.Plain return ∷ [])) (zip (before ∷ later) later) → TypedCode (front ++ (insns.Plain return ∷ [])) before
 typed_from [] before later plain leads = at_return
 typed_from (insn ∷ front) before [] plain leads = absurd leads
 typed_from (insn ∷ front) before (after ∷ later) (here, rest) (lead, leads) =
     ahead here lead (typed_from front after later rest leads)
 
-body_typed : (descriptor : List ℕ) (body : Body) → IsPlainBody Game descriptor body → TypedCode body.insns []
+body_typed : (descriptor : List ℕ) (body : Body) → IsPlainBody Game (class_name Game) descriptor body → TypedCode body.insns []
 body_typed descriptor body plain =
     let ends = plain.ends in
     let states = plain.verifies.typing in
     let whole = ends.front ++ (insns.Plain return ∷ []) in
-    let each = subst (AllByRecursion (IsPlainInsn Game)) ends.last plain.plain in
+    let each = subst (AllByRecursion (IsPlainInsn Game (class_name Game))) ends.last plain.plain in
     let leads = subst (λ code. AllZip (λ insn states. Leads insn states.0 states.1) code (zip ([] ∷ states.later) states.later)) ends.last states.leads in
     subst (λ code. TypedCode code []) (sym ends.last) (typed_from ends.front [] states.later each leads)
 
@@ -63,12 +63,12 @@ first_of [] (suc place) insn rest e = absurd cc
 first_of (first ∷ code) zero insn rest e = (cc, cc)
 first_of (first ∷ code) (suc place) insn rest e = first_of code place insn rest e
 
-code_typed : (descriptor : List ℕ) (body : Option Body) → IsSomeAnd body (IsPlainBody Game descriptor) → TypedCode (unwrap_or (option_map (λ b. b.insns) body) []) []
+code_typed : (descriptor : List ℕ) (body : Option Body) → IsSomeAnd body (IsPlainBody Game (class_name Game) descriptor) → TypedCode (unwrap_or (option_map (λ b. b.insns) body) []) []
 code_typed descriptor None plain = absurd plain
 code_typed descriptor (Some body) plain = body_typed descriptor body plain
 
 -- the code of a method that is found
-member_typed : (methods : List Member) → AllByRecursion (IsPlainMethod Game) methods → (place : ℕ) (shape : MethodShape) → slice_get (map method_shape methods) place ≡ Some shape → TypedCode (item (map code_of methods) place) []
+member_typed : (methods : List Member) → AllByRecursion IsGameMethod methods → (place : ℕ) (shape : MethodShape) → slice_get (map method_shape methods) place ≡ Some shape → TypedCode (item (map code_of methods) place) []
 member_typed [] plain place shape found = absurd cc
 member_typed (method ∷ methods) (here, rest) zero shape found = code_typed method.descriptor method.body here.code
 member_typed (method ∷ methods) (here, rest) (suc place) shape found =
@@ -122,17 +122,17 @@ plain_typing class =
     }
 
 -- which reference an instruction of plain code has
-reads_out : (op : ℕ) (reference : MemberReference) → op ≡ getstatic → IsPlainReference Game op reference → reference ≡ system_out
+reads_out : (op : ℕ) (reference : MemberReference) → op ≡ getstatic → IsPlainReference Game (class_name Game) op reference → reference ≡ system_out
 reads_out op reference e (inl (is, same)) = same
 reads_out op reference e (inr (inl (is, same))) = absurd (omega (arith, e, is))
 reads_out op reference e (inr (inr (is, own))) = absurd (omega (arith, e, is))
 
-calls_println : (op : ℕ) (reference : MemberReference) → op ≡ invokevirtual → IsPlainReference Game op reference → reference ≡ println
+calls_println : (op : ℕ) (reference : MemberReference) → op ≡ invokevirtual → IsPlainReference Game (class_name Game) op reference → reference ≡ println
 calls_println op reference e (inl (is, same)) = absurd (omega (arith, e, is))
 calls_println op reference e (inr (inl (is, same))) = same
 calls_println op reference e (inr (inr (is, own))) = absurd (omega (arith, e, is))
 
-calls_own : (op : ℕ) (reference : MemberReference) → op ≡ invokestatic → IsPlainReference Game op reference → IsOwnMethod Game reference
+calls_own : (op : ℕ) (reference : MemberReference) → op ≡ invokestatic → IsPlainReference Game (class_name Game) op reference → IsOwnMethod Game (class_name Game) reference
 calls_own op reference e (inl (is, same)) = absurd (omega (arith, e, is))
 calls_own op reference e (inr (inl (is, same))) = absurd (omega (arith, e, is))
 calls_own op reference e (inr (inr (is, own))) = own
@@ -144,7 +144,7 @@ found_class : (name : List ℕ) (methods : List MethodShape) → name ≡ class_
 found_class name methods e =
     subst (λ n. class_named (record { name = n; methods = methods } ∷ []) (class_name Game) ≡ Some (0, record { name = n; methods = methods })) (sym e) refl
 
-module _ (class : ClassFile) (name : class.name ≡ class_name Game) (all_plain : AllByRecursion (IsPlainMethod Game) class.methods) where
+module _ (class : ClassFile) (name : class.name ≡ class_name Game) (all_plain : AllByRecursion IsGameMethod class.methods) where
   abbrev shapes : List ClassShape
   shapes = shape_of class ∷ []
 
@@ -221,7 +221,7 @@ module _ (class : ClassFile) (name : class.name ≡ class_name Game) (all_plain 
     plain_keeps op _ _ (typing.returned e) stack fits goes =
         subst (λ o. EffectKeeps method place locals stack (plain_effect o stack shared)) (sym e) (tt, refl)
 
-    reference_keeps : (op : ℕ) (owner member descriptor : List ℕ) (interface : Bool) (taken put : Stack) (row : typing.Row (insns.Reference op owner member descriptor interface) taken put) (stack : List Value) → IsPlainReference Game op (record { owner = owner; name = member; descriptor = descriptor }) → AllZip FitsType (taken ++ rest) stack → GoesOn method place (put ++ rest) → FrameRuns class tt method (frame_at method place locals stack) → RowKeeps method place locals stack (reference_row shapes op (record { owner = owner; name = member; descriptor = descriptor }) locals stack shared)
+    reference_keeps : (op : ℕ) (owner member descriptor : List ℕ) (interface : Bool) (taken put : Stack) (row : typing.Row (insns.Reference op owner member descriptor interface) taken put) (stack : List Value) → IsPlainReference Game (class_name Game) op (record { owner = owner; name = member; descriptor = descriptor }) → AllZip FitsType (taken ++ rest) stack → GoesOn method place (put ++ rest) → FrameRuns class tt method (frame_at method place locals stack) → RowKeeps method place locals stack (reference_row shapes op (record { owner = owner; name = member; descriptor = descriptor }) locals stack shared)
     reference_keeps op owner member descriptor interface _ _ (typing.read_out e) stack reference fits goes here =
         subst (λ r. RowKeeps method place locals stack (reference_row shapes op r locals stack shared)) (sym (reads_out op _ e reference)) (subst (λ o. RowKeeps method place locals stack (reference_row shapes o system_out locals stack shared)) (sym e) (tt, in_code (goes (Reference SystemOut ∷ stack) (tt, fits))))
     reference_keeps op owner member descriptor interface _ _ (typing.printed e) stack reference fits goes here =
@@ -235,7 +235,7 @@ module _ (class : ClassFile) (name : class.name ≡ class_name Game) (all_plain 
     push_keeps op value _ _ (typing.push e) stack fits goes =
         subst (λ o. EffectKeeps method place locals stack (push_effect o value stack shared)) (sym e) (tt, in_code (goes (Int value ∷ stack) (tt, fits)))
 
-    insn_keeps : (insn : Insn) (taken put : Stack) → typing.Row insn taken put → IsPlainInsn Game insn → (stack : List Value) → AllZip FitsType (taken ++ rest) stack → GoesOn method place (put ++ rest) → FrameRuns class tt method (frame_at method place locals stack) → RowKeeps method place locals stack (insn_row shapes insn locals stack shared)
+    insn_keeps : (insn : Insn) (taken put : Stack) → typing.Row insn taken put → IsPlainInsn Game (class_name Game) insn → (stack : List Value) → AllZip FitsType (taken ++ rest) stack → GoesOn method place (put ++ rest) → FrameRuns class tt method (frame_at method place locals stack) → RowKeeps method place locals stack (insn_row shapes insn locals stack shared)
     insn_keeps (insns.Plain op) taken put row plain stack fits goes here = plain_keeps op taken put row stack fits goes
     insn_keeps (insns.Push op value) taken put row plain stack fits goes here =
         push_keeps op value taken put row stack fits goes

@@ -5,7 +5,7 @@ use Rattle.wv_base.specs.declared.insn.Insn.{Insn}
 use Rattle.wv_base.specs.declared.insn.Insn.TheVariants as insns
 use Rattle.wv_base.specs.Opcodes.{invokestatic, return}
 use Rattle.wv_model.specs.FormDomain.{Value, Reference, Null, Place, Array, Answer, Shared}
-use Rattle.wv_model.specs.PlainClass.{IsPlainDescriptor}
+use Rattle.wv_model.specs.PlainMethod.{IsPlainDescriptor}
 use Rattle.wv_model.specs.PlainCode.{Game, class_name}
 
 -- an entry: the start of the program, or a call of any static method of a class

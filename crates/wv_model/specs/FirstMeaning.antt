@@ -1,8 +1,6 @@
 -- What the written class of the first form means: it corresponds to the game class under its mixin. Our own.
 use Rattle.std.specs.Prelude.{◌≡◌, ℕ, List}
-use Rattle.std.specs.List.{AllByRecursion, AllZip}
 use Rattle.wv_base.specs.declared.class_file.ClassFile.{ClassFile}
-use Rattle.wv_base.specs.Folder.{File}
 use Rattle.wv_model.specs.Corresponds.{Corresponds}
 use Rattle.wv_model.specs.Frame.{Frame}
 use Rattle.wv_model.specs.FrameRelation.{FrameRelation, OneShared}
@@ -11,9 +9,6 @@ use Rattle.wv_model.specs.Simulates.{Numbered}
 use Rattle.wv_model.specs.Step.{State}
 use Rattle.wv_model.specs.FormDomain.{Value, MethodId, Shared, Answer, form}
 use Rattle.wv_model.specs.Entries.{Entry}
-use Rattle.wv_model.specs.PlainCode.{Game, Mixin}
-use Rattle.wv_model.specs.PlainClass.{IsPlainMethod, Spells}
-use Rattle.wv_model.specs.FirstForm.{HasClass}
 use Rattle.wv_model.specs.PlainMachine.{frame_at, plain_machine, plain_start}
 use Rattle.wv_model.specs.HookMachine.{Point, insn_at, hook_machine, hook_start}
 
@@ -21,20 +16,6 @@ use Rattle.wv_model.specs.HookMachine.{Point, insn_at, hook_machine, hook_start}
 abbrev pub MeansHooked : ClassFile → ClassFile → List ClassFile → Type 0
 MeansHooked game mixin classes =
     (entry : Entry) (most : ℕ) (answers : List Answer) → Corresponds (plain_machine classes) (plain_start entry most answers) (hook_machine game mixin) (hook_start entry most answers)
-
--- the file spells this class, and the code of its methods is plain
-abbrev pub IsFileOf : File → ClassFile → Type 0
-IsFileOf file class = Spells Game file.1 class × AllByRecursion (IsPlainMethod Game) class.methods
-
--- the files are those of one list of classes and of no other, which do what the folder's game class does under its mixin,
--- in whatever way the two are read
-pub record MeansFolder (folder files : List File) : Type 0 where
-  pub has_game : (game : ClassFile) × HasClass folder Game game
-  pub has_mixin : (mixin : ClassFile) × HasClass folder Mixin mixin
-  pub classes : List ClassFile
-  pub files_of : AllZip IsFileOf files classes
-  pub only : (others : List ClassFile) → AllZip IsFileOf files others → others ≡ classes
-  pub means : (game mixin : ClassFile) → HasClass folder Game game → HasClass folder Mixin mixin → MeansHooked game mixin classes
 
 -- two frames of a method whose next instruction is the same one, with the same locals and stack; the number is 0, since
 -- each step of the written class stands for one of the hook machine

@@ -14,12 +14,10 @@ pub mod Lifted
 pub mod Typing
 pub mod Toy
 pub mod Threads
-pub mod PlainPool
 pub mod PlainCode
 pub mod PlainTyping
-pub mod PlainClass
+pub mod PlainMethod
 pub mod FolderRead
-pub mod FirstForm
 pub mod MemberTable
 pub mod FirstFormExamples
 pub mod FormDomain
@@ -29,5 +27,4 @@ pub mod Entries
 pub mod PlainMachine
 pub mod HookMachine
 pub mod FirstMeaning
-pub mod WithoutNotes
 pub mod MeaningExamples

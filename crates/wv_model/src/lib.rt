@@ -15,7 +15,7 @@ mod step;
 mod toy;
 mod typing;
 
-pub use first_form::{first_form_examples, one_first_broken, one_plain_class};
+pub use first_form::first_form_examples;
 pub use frames::{FrameSimulation, starts_correspond, states_simulate, turns_agree};
 pub use machine::{Growing, longer_run_keeps};
 pub use meaning::{first_form_corresponds, first_form_steps, form_never_stuck, meaning_examples};
