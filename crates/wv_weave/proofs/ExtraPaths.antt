@@ -12,7 +12,7 @@ use Rattle.std.proofs.lemmas.Map.Text.{is_eq-slice_cmp}
 use Rattle.std.proofs.lemmas.Slice.Eq.{bytes_eq-Decides}
 use Rattle.wv_base.specs.Folder.{File, IsPathBefore, IsInOrder, content_of}
 use Rattle.wv_base.proofs.PathOrder.{content_of-at}
-use Rattle.wv_model.specs.FirstForm.{counts, form_paths}
+use Rattle.wv_weave.specs.FirstForm.{counts, form_paths}
 use Rattle.wv_weave.specs.Outside.{is_form_path, IsExtra, IsFirstPath}
 
 -- ---- The test of a path

@@ -4,16 +4,21 @@ use Rattle.std.specs.List.{IsAmong}
 use Rattle.std.proofs.lemmas.Slice.Eq.{bytes_eq-Decides}
 use Rattle.wv_base.specs.Folder.{File, IsPathBefore, content_of}
 use Rattle.wv_base.specs.declared.broken.Broken.{Broken}
-use Rattle.wv_model.specs.FirstForm.{class_path, json_files, form_paths, IsOutside, out_of_form, BreaksForm, ArePlaces, Holds, IsFirstPlace, Unlimited}
-use Rattle.wv_model.specs.PlainClass.{magic, HasMagic, IsMagicFault, IsPlainAs}
+use Rattle.wv_weave.specs.FirstForm.{class_path, json_files, form_paths, IsOutside, out_of_form, BreaksForm, ArePlaces, Holds, IsFirstPlace, Unlimited}
+use Rattle.wv_base.specs.declared.class_file.ClassFile.{ClassFile}
+use Rattle.wv_class.specs.Meaning.{Spells}
 use Rattle.wv_model.specs.PlainCode.{Role, Game, Mixin}
-use Rattle.wv_model.proofs.PlaceOrder.{path_of, insert_place, inserted_ordered, AreOne, inserted_has, inserted_is, contains_head, contains_parts}
+use Rattle.wv_weave.proofs.PlaceOrder.{path_of, insert_place, inserted_ordered, AreOne, inserted_has, inserted_is, contains_head, contains_parts}
 use Rattle.wv_weave.specs.ClassRead.{IsReadOf}
 use Rattle.wv_weave.specs.declared.class_read.ClassRead.{ClassRead}
 use Rattle.wv_weave.specs.declared.class_read.ClassRead.TheVariants as reads
 use Rattle.wv_weave.specs.Outside.{IsExtra, IsUnfit, IsOut, IsFirstPath}
 use Rattle.wv_weave.proofs.ExtraPaths.{is_extra, is_extra-from, extra-from}
 use Rattle.wv_weave.proofs.ExtraPaths as extra_paths
+use Rattle.wv_class.proofs.OneFault.{class_is_sound}
+use Rattle.wv_class.proofs.OneMeaning.{one_class}
+use Rattle.wv_class.specs.Layout.{IsLayoutFault}
+use Rattle.wv_weave.specs.ThinClass.{IsThin}
 use Rattle.wv_weave.proofs.UnfitPaths.{json, nth, Fits}
 use Rattle.wv_weave.proofs.UnfitPaths as unfit_paths
 
@@ -135,26 +140,23 @@ content_test (Some content) text = by (text_or_other content text)
 
 read_test : (read : ClassRead) → Decided ((read ≡ reads.OutOfForm → ⊥) → ⊥)
 read_test (reads.Class class) = inr (λ never. never (λ e. cc))
-read_test (reads.NoMagic at) = inr (λ never. never (λ e. cc))
+read_test (reads.Layout at) = inr (λ never. never (λ e. cc))
+read_test (reads.Reference at) = inr (λ never. never (λ e. cc))
 read_test reads.OutOfForm = inl (λ never. never refl)
 
 read_is : (read : ClassRead) → ((read ≡ reads.OutOfForm → ⊥) → ⊥) → read ≡ reads.OutOfForm
 read_is (reads.Class class) never = absurd (never (λ e. cc))
-read_is (reads.NoMagic at) never = absurd (never (λ e. cc))
+read_is (reads.Layout at) never = absurd (never (λ e. cc))
+read_is (reads.Reference at) never = absurd (never (λ e. cc))
 read_is reads.OutOfForm never = refl
 
-pub take_within : (n m : ℕ) (xs : List ℕ) → n ≤ m → take n (take m xs) ≡ take n xs
-take_within zero m xs le = refl
-take_within (suc n) zero xs le = absurd (omega arith)
-take_within (suc n) (suc m) [] le = refl
-take_within (suc n) (suc m) (x ∷ xs) le = ap (λ ys. x ∷ ys) (take_within n m xs (omega arith))
+-- bytes that spell a class have a layout
+pub class_has_layout : (bytes : List ℕ) (c : ClassFile) (at : ℕ) → Spells bytes c → IsLayoutFault bytes at → ⊥
+class_has_layout bytes c at spells fault = fault.no_class spells.raw spells.layout
 
-pub magic_fault_not : (content : List ℕ) (at : ℕ) → IsMagicFault content at → HasMagic content → ⊥
-magic_fault_not content at fault has =
-    fault.other (front content ∙ ap (take (at + 1)) has ∙ sym (front magic))
-  where
-    front : (xs : List ℕ) → take (at + 1) xs ≡ take (at + 1) (take 4 xs)
-    front xs = sym (take_within (at + 1) 4 xs (omega (arith, fault.within)))
+-- bytes spell a class that isn't thin
+abbrev IsThick : Role → List ℕ → Type 0
+IsThick role content = (class : ClassFile) × Spells content class × (IsThin role content class → ⊥)
 
 module _ (folder : List File) (game mixin : ClassRead) where
   abbrev Unfit : ℕ → Type 0
@@ -219,13 +221,17 @@ module _ (folder : List File) (game mixin : ClassRead) where
     one_content : (path a b : List ℕ) → content_of path folder ≡ Some a → content_of path folder ≡ Some b → a ≡ b
     one_content path a b e f = some_is a b (sym e ∙ f)
 
-    -- a class file that is missing, or that has the magic number and isn't plain, is read as out of form
-    unread : (role : Role) (read : ClassRead) → IsReadOf folder (class_path role) role read → ((content : List ℕ) → content_of (class_path role) folder ≡ Some content → HasMagic content × (IsPlainAs role content → ⊥)) → read ≡ reads.OutOfForm
-    unread role (reads.Class class) is other = absurd ((other is.0 is.1).1 (class, is.2))
-    unread role (reads.NoMagic at) is other = absurd (magic_fault_not is.0 at is.2 (other is.0 is.1).0)
+    -- a class file that is missing, or that spells a class which isn't thin, is read as out of form
+    unread : (role : Role) (read : ClassRead) → IsReadOf folder (class_path role) role read → ((content : List ℕ) → content_of (class_path role) folder ≡ Some content → IsThick role content) → read ≡ reads.OutOfForm
+    unread role (reads.Class class) is other =
+        let thick = other is.0 is.1 in
+        let same : class ≡ thick.0 = one_class is.0 class thick.0 is.2.0 thick.1 in
+        absurd (thick.2 (subst (IsThin role is.0) same is.2.1))
+    unread role (reads.Layout at) is other = let thick = other is.0 is.1 in absurd (class_has_layout is.0 thick.0 at thick.1 is.2)
+    unread role (reads.Reference at) is other = let thick = other is.0 is.1 in absurd (class_is_sound is.0 thick.0 at thick.1 is.2)
     unread role reads.OutOfForm is other = refl
 
-    role_out : (role : Role) → ((content : List ℕ) → content_of (class_path role) folder ≡ Some content → HasMagic content × (IsPlainAs role content → ⊥)) → IsOut folder game mixin (class_path role)
+    role_out : (role : Role) → ((content : List ℕ) → content_of (class_path role) folder ≡ Some content → IsThick role content) → IsOut folder game mixin (class_path role)
     role_out Game other = inr (inr (inl (refl, unread Game game game_read other)))
     role_out Mixin other = inr (inr (inr (refl, unread Mixin mixin mixin_read other)))
 
@@ -253,9 +259,9 @@ module _ (folder : List File) (game mixin : ClassRead) where
     outside_out path (inl (among, none)) = missing path among.0 among.1.0 among.1.1 none
     outside_out path (inr (inl extra)) = inl (record { counts = extra.0; other = extra.1; content = extra.2.0; present = extra.2.1 })
     outside_out path (inr (inr (content, present, inl (text, among, other)))) = inr (inl (text, among, λ e. other (one_content path content text present e)))
-    outside_out path (inr (inr (content, present, inr (role, at, has, plain)))) =
+    outside_out path (inr (inr (content, present, inr (role, at, thick)))) =
         subst (IsOut folder game mixin) (sym at)
-        (role_out role (λ found e. let same = one_content (class_path role) found content e (ap (λ p. content_of p folder) (sym at) ∙ present) in (subst HasMagic (sym same) has, λ is. plain (subst (IsPlainAs role) same is))))
+        (role_out role (λ found e. let same = one_content (class_path role) found content e (ap (λ p. content_of p folder) (sym at) ∙ present) in subst (IsThick role) (sym same) thick))
 
     -- a path of the form that is there with this content
     json_among : (path text : List ℕ) → IsAmong json_files (path, text) → IsAmong form_paths path
@@ -279,7 +285,7 @@ module _ (folder : List File) (game mixin : ClassRead) where
       where
         by : (o : Option (List ℕ)) → content_of (class_path role) folder ≡ o → IsOutside folder (class_path role)
         by None e = inl ((i, (within, at)), e)
-        by (Some content) e = inr (inr (content, e, inr (role, refl, (is content e).0, (is content e).1)))
+        by (Some content) e = inr (inr (content, e, inr (role, refl, is content e)))
 
     out_outside : (path : List ℕ) → IsOut folder game mixin path → IsOutside folder path
     out_outside path (inl extra) = inr (inl (extra.counts, extra.other, (extra.content, extra.present)))

@@ -1,5 +1,5 @@
 -- The state behind an instruction is the one to which its row leads, and a check by states says whether there is a typing.
-use Rattle.std.proofs.Common.{◌≡◌, ℕ, suc, ◌+◌, ◌==◌, ◌||◌, add-one, drop-cons, ◌<◌, ◌≤◌, nat_le, Bool, true, false, ◌&&◌, cond, if◌then◌else◌, ◌⊎◌, inl, inr, List, [], ◌∷◌, ◌++◌, length, drop, get_or, Option, Some, None, Result, Ok, Err, MatchBool, refl, sym, ap, ◌∙◌, arith, tests, rules}
+use Rattle.std.proofs.Common.{◌≡◌, ℕ, suc, ◌+◌, ◌==◌, ◌||◌, add-one, drop-cons, ◌<◌, ◌≤◌, nat_le, Bool, true, false, ◌&&◌, cond, if◌then◌else◌, ◌⊎◌, inl, inr, List, [], ◌∷◌, ◌++◌, length, drop, get_or, Option, Some, None, Err, refl, sym, ap, ◌∙◌, arith, tests, rules}
 use Rattle.std.proofs.lemmas.Bool.{leb-true, le-leb}
 use Rattle.std.proofs.lemmas.Bool.Decides.{nat_tests}
 use Rattle.std.specs.Cmp.Derive.{both_true}
@@ -15,9 +15,9 @@ use Rattle.wv_model.specs.PlainTyping.{Stack, print_stream, Row, iconst, push, a
 use Rattle.wv_weave.specs.declared.typing.Kind.{Kind}
 use Rattle.wv_weave.specs.declared.typing.Kind.TheVariants as kinds
 use Rattle.wv_weave.specs.Checking as checking
-use Rattle.wv_weave.specs.declared.fault.PlainFault.{PlainFault}
-use Rattle.wv_weave.specs.declared.fault.PlainFault.TheVariants as faults
-use Rattle.wv_weave.specs.Checking.{Tells, Answers, IsNext, type_of, is_of, taken, added, next_plain, next_push, next_reference, next, goes_on, checks}
+use Rattle.wv_weave.specs.declared.fault.TypingFault.{TypingFault}
+use Rattle.wv_weave.specs.declared.fault.TypingFault.TheVariants as faults
+use Rattle.wv_weave.specs.Checking.{Answers, IsNext, type_of, is_of, taken, added, next_plain, next_push, next_reference, next, goes_on, checks}
 
 -- ---- A row leads to the next state
 
@@ -204,13 +204,7 @@ typing_of_checks max_stack insns e =
 pub checks_of_typing : (max_stack : ℕ) (insns : List Insn) → HasTyping max_stack insns → checks max_stack [] insns ≡ true
 checks_of_typing max_stack insns typing = checks_from max_stack [] insns typing.later typing.leads typing.within
 
--- ---- A turn of the check
-
-pub checks_step : (max_stack : ℕ) (stack after : Stack) (insns : List Insn) (i : ℕ) (insn : Insn) → i < length insns → insn ≡ get_or insns i insn
-    → next insn stack ≡ Some after → length after ≤ max_stack → checks max_stack stack (drop i insns) ≡ checks max_stack after (drop (i + 1) insns)
-checks_step max_stack stack after insns i insn within is found fits =
-    let cut : drop i insns ≡ insn ∷ drop (i + 1) insns = rw (add-one, drop-cons insns i insn) (ap (λ x. x ∷ drop (suc i) insns) (sym is)) in
-    rw cut (rw found (rw le-leb refl))
+-- ---- The end of the check
 
 pub checks_stop : (max_stack : ℕ) (stack : Stack) (insns : List Insn) (i : ℕ) (insn : Insn) → i < length insns → insn ≡ get_or insns i insn
     → next insn stack ≡ None → checks max_stack stack (drop i insns) ≡ false
@@ -218,44 +212,17 @@ checks_stop max_stack stack insns i insn within is found =
     let cut : drop i insns ≡ insn ∷ drop (i + 1) insns = rw (add-one, drop-cons insns i insn) (ap (λ x. x ∷ drop (suc i) insns) (sym is)) in
     rw cut (rw found refl)
 
-pub checks_full : (max_stack : ℕ) (stack after : Stack) (insns : List Insn) (i : ℕ) (insn : Insn) → i < length insns → insn ≡ get_or insns i insn
-    → next insn stack ≡ Some after → max_stack < length after → checks max_stack stack (drop i insns) ≡ false
-checks_full max_stack stack after insns i insn within is found over =
-    let cut : drop i insns ≡ insn ∷ drop (i + 1) insns = rw (add-one, drop-cons insns i insn) (ap (λ x. x ∷ drop (suc i) insns) (sym is)) in
-    let big : nat_le (length after) max_stack ≡ false = grind (arith, nat_tests) in
-    rw cut (rw found (rw big refl))
-
 pub checks_end : (max_stack : ℕ) (stack : Stack) (insns : List Insn) (i : ℕ) → length insns ≤ i → checks max_stack stack (drop i insns) ≡ true
 checks_end max_stack stack insns i over =
     let none : drop i insns ≡ [] = grind (arith, common_steps) in rw none refl
 
 -- ---- What the check tells
 
-no_typing : (max_stack : ℕ) (insns : List Insn) (b : Bool) → checks max_stack [] insns ≡ b → b ≡ false → HasTyping max_stack insns → ⊥
-no_typing max_stack insns b is stops typing = let holds = checks_of_typing max_stack insns typing in cc
+pub no_typing : (max_stack : ℕ) (insns : List Insn) → checks max_stack [] insns ≡ false → HasTyping max_stack insns → ⊥
+no_typing max_stack insns fails typing = let holds = checks_of_typing max_stack insns typing in cc
 
-pub stop_tells : (fault : PlainFault) (max_stack : ℕ) (stack after : Stack) (insns : List Insn) (i : ℕ) (insn : Insn) → i < length insns → insn ≡ get_or insns i insn
+pub stop_tells : (fault : TypingFault) (max_stack : ℕ) (stack after : Stack) (insns : List Insn) (i : ℕ) (insn : Insn) → i < length insns → insn ≡ get_or insns i insn
     → checks max_stack [] insns ≡ checks max_stack stack (drop i insns) → IsNext {T = Unit {0}} (Err fault) (next insn stack) after → Answers {T = Unit {0}} (Err fault) (checks max_stack [] insns)
-stop_tells faults.NotPlain max_stack stack after insns i insn within is kept found =
+stop_tells faults.Untyped max_stack stack after insns i insn within is kept found =
     kept ∙ (checks_stop max_stack stack insns i insn within is found)
 stop_tells faults.Memory max_stack stack after insns i insn within is kept found = tt
-
-full_tells : (fault : PlainFault) (fits : Bool) (max_stack : ℕ) (stack after : Stack) (insns : List Insn) (i : ℕ) (insn : Insn) → i < length insns → insn ≡ get_or insns i insn
-    → checks max_stack [] insns ≡ checks max_stack stack (drop i insns) → next insn stack ≡ Some after → nat_le (length after) max_stack ≡ fits
-    → MatchBool fits (◌≡◌ {A = Result (Unit {0}) PlainFault} (Err fault) (Ok tt)) (◌≡◌ {A = Result (Unit {0}) PlainFault} (Err fault) (Err faults.NotPlain)) → Answers {T = Unit {0}} (Err fault) (checks max_stack [] insns)
-full_tells fault true max_stack stack after insns i insn within is kept found test told = cc
-full_tells faults.NotPlain false max_stack stack after insns i insn within is kept found test told =
-    kept ∙ (checks_full max_stack stack after insns i insn within is found (grind (arith, nat_tests)))
-full_tells faults.Memory false max_stack stack after insns i insn within is kept found test told = tt
-
-pub room_tells : (fault : PlainFault) (words max_stack : ℕ) (stack after : Stack) (insns : List Insn) (i : ℕ) (insn : Insn) → i < length insns → insn ≡ get_or insns i insn
-    → checks max_stack [] insns ≡ checks max_stack stack (drop i insns) → next insn stack ≡ Some after → words ≡ length after
-    → MatchBool (nat_le words max_stack) (◌≡◌ {A = Result (Unit {0}) PlainFault} (Err fault) (Ok tt)) (◌≡◌ {A = Result (Unit {0}) PlainFault} (Err fault) (Err faults.NotPlain)) → Answers {T = Unit {0}} (Err fault) (checks max_stack [] insns)
-room_tells fault words max_stack stack after insns i insn within is kept found same told =
-    full_tells fault (nat_le words max_stack) max_stack stack after insns i insn within is kept found (ap (λ n. nat_le n max_stack) (sym same)) told
-
--- what the check tells of a typing, from its answer
-pub answer_tells : (max_stack : ℕ) (insns : List Insn) (result : Result (Unit {0}) PlainFault) → Answers result (checks max_stack [] insns) → Tells result (HasTyping max_stack insns)
-answer_tells max_stack insns (Ok value) e = typing_of_checks max_stack insns e
-answer_tells max_stack insns (Err faults.NotPlain) e = no_typing max_stack insns _ refl e
-answer_tells max_stack insns (Err faults.Memory) e = tt

@@ -1,16 +1,15 @@
--- What plain classes are woven to passes no limit: each of them has at most 4,096 bytes, and so few constants and so
--- little code.
-use Rattle.std.proofs.Common.{◌≡◌, ℕ, zero, suc, ◌+◌, ◌*◌, ◌<◌, ◌≤◌, ◌==◌, Bool, true, false, cond, List, [], ◌∷◌, ◌++◌, map, codes, length, set, get_or, Option, Some, None, option_map, refl, sym, ap, subst, ◌∙◌, inl, inr, arith}
-use Rattle.std.specs.Prelude.{Contains, slice_set, IsSomeAnd}
-use Rattle.std.specs.List.{concat, flat_map, AllByRecursion, AllZip}
-use Rattle.std.proofs.lemmas.List.{length-append}
-use Rattle.std.proofs.lemmas.List.Concat.{flat_map-cons}
-use Rattle.std.proofs.lemmas.List.Sums.{sum_by-cons}
+-- A class in which a method of the mixin overwrites one passes no limit: each of the two was read from at most 4,096 bytes.
+use Rattle.std.proofs.Common.{◌≡◌, ℕ, zero, suc, ◌+◌, ◌*◌, ◌<◌, ◌≤◌, Bool, true, false, cond, List, [], ◌∷◌, ◌++◌, map, codes, length, set, Option, Some, option_map, refl, sym, ap, subst, inl, inr, arith}
+use Rattle.std.specs.Prelude.{slice_index, nat_le, ◌==◌}
+use Rattle.std.proofs.lemmas.Bool.Decides.{nat_tests}
+use Rattle.std.specs.List.{AllByRecursion, flat_map, sum_by}
+use Rattle.std.proofs.lemmas.List.{length-append, length-map, length-set}
+use Rattle.std.proofs.lemmas.List.Sums.{sum_by-cons, sum_by-append}
 use Rattle.wv_base.specs.declared.class_file.Body.{Body}
 use Rattle.wv_base.specs.declared.class_file.ClassFile.{ClassFile}
+use Rattle.wv_base.specs.declared.class_file.ClassVersion.{ClassVersion}
 use Rattle.wv_base.specs.declared.class_file.Member.{Member}
 use Rattle.wv_base.specs.declared.class_file.PoolEntry.{PoolEntry}
-use Rattle.wv_base.specs.declared.class_file.PoolEntry.TheVariants as entries
 use Rattle.wv_base.specs.declared.constant.Const.{Const}
 use Rattle.wv_base.specs.declared.constant.Const.TheVariants as constants
 use Rattle.wv_base.specs.declared.constant.MemberReference.{MemberReference}
@@ -18,271 +17,275 @@ use Rattle.wv_base.specs.declared.fault.LimitFault.{LimitFault}
 use Rattle.wv_base.specs.declared.fault.LimitFault.TheVariants as faults
 use Rattle.wv_base.specs.declared.insn.Insn.{Insn}
 use Rattle.wv_base.specs.declared.insn.Insn.TheVariants as insns
-use Rattle.wv_base.specs.Opcodes.{getstatic}
-use Rattle.wv_model.specs.PlainPool.{u2, u4, entry_bytes, pool_bytes, IsPlainEntry}
-use Rattle.wv_model.specs.PlainCode.{Role, Game, Mixin}
-use Rattle.wv_model.specs.PlainClass.{head_bytes, most_bytes, IsCode, SpellsMethodAttributes, SpellsMethod, Spells, IsPlainClass}
-use Rattle.wv_model.specs.MemberTable.{read_in_target, body_in_target, overwritten}
+use Rattle.wv_base.specs.Opcodes.{putfield, bipush, invokeinterface}
+use Rattle.wv_class.specs.Limits.{member_attributes, class_attributes, one_if, HasLong, SomeHasLong, HasLongList, IsTooLong, BreaksLimit, FirstOf, IsCause}
+use Rattle.wv_class.specs.Needs.{parts_of, code_constants, member_needs, members_need, head_constants, annotations_need, class_needs}
+use Rattle.wv_code.specs.Constants.{member_constant, constants_in, all_constants}
+use Rattle.wv_code.specs.Laying.{Takes, Stand, Reaches, IsLarge, LeavesFar}
+use Rattle.wv_model.specs.PlainCode.{Role, Game, Mixin, class_name, IsPlainReference}
+use Rattle.wv_model.specs.PlainMethod.{IsPlainBody}
+use Rattle.wv_model.specs.MemberTable.{meaning_of, read_in_target, body_in_target, overwritten}
 use Rattle.wv_pool.specs.Adding.{needs, numbers_of, Lacks, none, named, again, lacked, AreTooMany}
-use Rattle.wv_weave.specs.ClassConstants.{operand, insn_constants, code_constants, method_constants, class_constants, parts_of, HasPlainTexts, IsPlainConst}
-use Rattle.wv_weave.specs.Overwrite.{IsOverwrite}
-use Rattle.wv_weave.specs.Writing.{insn_size, code_size, IsWritable, Exceeds}
-use Rattle.wv_weave.proofs.PoolGrowth.{all_both, all_parts, parts_then, plain_parts}
-use Rattle.wv_weave.proofs.WrittenClass.{size_spelled}
-use Rattle.wv_weave.proofs.WovenForm.{all_set, read_writable, mixin_code, overwrite_writable}
+use Rattle.wv_weave.specs.Overwrite.{IsOverwritten}
+use Rattle.wv_class.specs.Sizes.{HasNoFrames, HasFewInsns, IsSmallMethod, IsSmall}
+use Rattle.wv_weave.specs.ThinClass.{IsThinClass, IsThinMethod, most_bytes}
+use Rattle.wv_class.proofs.SmallReads.{read_small}
+use Rattle.wv_weave.proofs.WovenForm.{all_weaker, all_set, all_at, all_contained, IsSimple, plain, push, reference, all_simple, some_body, insns_read, no_frames, origin_plain}
+
+-- ---- Lists
+
+pub all_parts : {X : Type 0} (P : X → Type 0) (xs ys : List X) → AllByRecursion P (xs ++ ys) → AllByRecursion P xs × AllByRecursion P ys
+all_parts P [] ys h = (tt, h)
+all_parts P (x ∷ xs) ys h = let r = all_parts P xs ys h.1 in ((h.0, r.0), r.1)
 
 -- ---- How many numbers constants take
 
-pub numbers_one : (c : Const) → HasPlainTexts c → numbers_of c ≡ 1
-numbers_one (constants.Utf8 x) h = refl
-numbers_one (constants.Integer v) h = absurd h
-numbers_one (constants.Float b) h = absurd h
-numbers_one (constants.Long v) h = absurd h
-numbers_one (constants.Double b) h = absurd h
-numbers_one (constants.Class x) h = refl
-numbers_one (constants.String x) h = absurd h
-numbers_one (constants.Field m) h = refl
-numbers_one (constants.Method m false) h = refl
-numbers_one (constants.Method m true) h = absurd h
-numbers_one (constants.NameAndType x y) h = refl
-numbers_one (constants.MethodHandle k m i) h = absurd h
-numbers_one (constants.MethodType x) h = absurd h
-numbers_one (constants.InvokeDynamic k x y) h = absurd h
+lacks_few : (pool : List PoolEntry) (cs : List Const) (n : ℕ) → Lacks pool cs n → n ≤ sum_by numbers_of cs
+lacks_few pool [] n none = omega arith
+lacks_few pool (c ∷ cs) n (named h r) = omega (arith, lacks_few pool cs n r, sum_by-cons numbers_of c cs)
+lacks_few pool (c ∷ cs) n (again h r) = omega (arith, lacks_few pool cs n r, sum_by-cons numbers_of c cs)
+lacks_few pool (c ∷ cs) n (lacked {n = m} u v r) = omega (arith, lacks_few pool cs m r, sum_by-cons numbers_of c cs)
 
-lacks_length : (pool : List PoolEntry) (cs : List Const) (n : ℕ) → AllByRecursion IsPlainConst cs → Lacks pool cs n → n ≤ length cs
-lacks_length pool [] n all none = omega arith
-lacks_length pool (c ∷ cs) n all (named h r) = omega (arith, lacks_length pool cs n all.1 r)
-lacks_length pool (c ∷ cs) n all (again h r) = omega (arith, lacks_length pool cs n all.1 r)
-lacks_length pool (c ∷ cs) n all (lacked {n = m} u v r) = omega (arith, numbers_one c all.0.1, lacks_length pool cs m all.1 r)
+many_numbers : (pool : List PoolEntry) (cs : List Const) → AreTooMany pool cs → 65535 < length pool + 1 + sum_by numbers_of cs
+many_numbers pool cs t =
+    omega (arith, t.passes, lacks_few pool t.last t.more t.lacks, ap (sum_by numbers_of) t.parts, sum_by-append numbers_of t.before t.last)
 
-pub all_plain : (cs : List Const) → AllByRecursion IsPlainConst cs → AllByRecursion IsPlainConst (parts_of cs)
-all_plain [] h = tt
-all_plain (c ∷ cs) h = all_both IsPlainConst (parts_of cs) (needs c) (all_plain cs h.1) (plain_parts c h.0)
+-- the same with the constants behind them
+count_next : (c : Const) (cs : List Const) → sum_by numbers_of (parts_of (c ∷ cs)) ≡ sum_by numbers_of (parts_of cs) + sum_by numbers_of (needs c)
+count_next c cs = sum_by-append numbers_of (parts_of cs) (needs c)
 
-many_length : (pool : List PoolEntry) (cs : List Const) → AllByRecursion IsPlainConst cs → AreTooMany pool cs → 65535 < length pool + 1 + length cs
-many_length pool cs plain t =
-    let last = (all_parts IsPlainConst t.before t.last (subst (AllByRecursion IsPlainConst) t.parts plain)).1 in
-    omega (arith, t.passes, lacks_length pool t.last t.more last t.lacks, ap length t.parts, length-append t.before t.last)
+count_then : (xs ys : List Const) → sum_by numbers_of (parts_of (xs ++ ys)) ≡ sum_by numbers_of (parts_of xs) + sum_by numbers_of (parts_of ys)
+count_then [] ys = omega arith
+count_then (c ∷ xs) ys = omega (arith, count_next c (xs ++ ys), count_next c xs, count_then xs ys)
 
--- ---- How many constants a class has, by its bytes
-
--- how many constants and constants behind them there are
-abbrev count : List Const → ℕ
-count cs = length (parts_of cs)
-
-count_then : (xs ys : List Const) → count (xs ++ ys) ≡ count xs + count ys
-count_then xs ys = omega (arith, ap length (parts_then xs ys), length-append (parts_of ys) (parts_of xs))
-
-count_pieces : {X : Type 0} (f : X → List Const) (x : X) (xs : List X) → count (flat_map f (x ∷ xs)) ≡ count (f x) + count (flat_map f xs)
-count_pieces f x xs = ap count (flat_map-cons f x xs) ∙ count_then (f x) (flat_map f xs)
-
-operand_count : (op : ℕ) (m : MemberReference) → count (operand op m ∷ []) ≡ 6
-operand_count op m = go (op == getstatic)
+member_count : (op : ℕ) (m : MemberReference) (interface : Bool) → sum_by numbers_of (needs (member_constant op m interface)) ≡ 6
+member_count op m interface = go (nat_le op putfield)
   where
-    go : (static : Bool) → count (cond static (constants.Field m) (constants.Method m false) ∷ []) ≡ 6
+    go : (field : Bool) → sum_by numbers_of (needs (cond field (constants.Field m) (constants.Method m interface))) ≡ 6
     go true = refl
     go false = refl
 
-insn_count : (insn : Insn) → count (insn_constants insn) ≤ 2 * insn_size insn
-insn_count (insns.Plain op) = omega arith
-insn_count (insns.Push op value) = omega arith
-insn_count (insns.Reference op owner name descriptor interface) = omega (arith, operand_count op (record { owner = owner; name = name; descriptor = descriptor }))
-insn_count (insns.Load op value) = omega arith
-insn_count (insns.Local op slot wide) = omega arith
-insn_count (insns.Inc slot by wide) = omega arith
-insn_count (insns.Branch op to) = omega arith
-insn_count (insns.Table low other targets) = omega arith
-insn_count (insns.Lookup other cases) = omega arith
-insn_count (insns.Site bootstrap name descriptor) = omega arith
-insn_count (insns.Class op class) = omega arith
-insn_count (insns.NewArray kind) = omega arith
-insn_count (insns.MultiArray class dimensions) = omega arith
+read_count : {own : List ℕ} {insn : Insn} → IsSimple Mixin own insn → sum_by numbers_of (parts_of (constants_in (read_in_target insn))) ≤ 6
+read_count (plain is) = omega arith
+read_count (push is fits) = omega arith
+read_count (reference {op = op} {owner = owner} {name = name} {descriptor = descriptor} {interface = interface} member is) =
+    let m : MemberReference = record { owner = meaning_of owner; name = name; descriptor = descriptor } in
+    omega (arith, member_count op m interface, count_next (member_constant op m interface) [])
 
-code_count : (code : List Insn) → count (flat_map insn_constants code) ≤ 2 * code_size code
-code_count [] = omega arith
-code_count (insn ∷ code) = omega (arith, count_pieces insn_constants insn code, sum_by-cons insn_size insn code, insn_count insn, code_count code)
+code_count : (own : List ℕ) (code : List Insn) → AllByRecursion (IsSimple Mixin own) code → sum_by numbers_of (parts_of (flat_map constants_in (map read_in_target code))) ≤ 6 * length code
+code_count own [] h = omega arith
+code_count own (insn ∷ code) h =
+    omega (arith, count_then (constants_in (read_in_target insn)) (flat_map constants_in (map read_in_target code)), read_count h.0, code_count own code h.1)
 
-method_count : (method : Member) (body : Body) → method.body ≡ Some body → count (method_constants method) ≤ 3 + 2 * code_size body.insns
-method_count method body is =
-    let code : count (code_constants method.body) ≤ 1 + 2 * code_size body.insns =
-    subst (λ (o : Option Body). count (code_constants o) ≤ 1 + 2 * code_size body.insns) (sym is)
-    (omega (arith, count_then (constants.Utf8 (codes "Code") ∷ []) (flat_map insn_constants body.insns), code_count body.insns)) in
-    omega (arith, count_then (constants.Utf8 method.name ∷ constants.Utf8 method.descriptor ∷ []) (code_constants method.body), code)
+-- a method with the mixin's code names itself, its descriptor and Code
+overwritten_count : (own : List ℕ) (old : Member) (origin : Member) (b : Body) → origin.body ≡ Some b → AllByRecursion (IsSimple Mixin own) b.insns → sum_by numbers_of (member_needs (overwritten old origin)) ≤ 3 + 6 * length b.insns
+overwritten_count own old origin b is simple =
+    subst (λ (o : Option Body). sum_by numbers_of (parts_of (constants.Utf8 old.name ∷ constants.Utf8 old.descriptor ∷ (code_constants (option_map body_in_target o) ++ []))) ≤ 3 + 6 * length b.insns) (sym is)
+    (omega (
+      arith,
+      count_next (constants.Utf8 old.name) (constants.Utf8 old.descriptor ∷ (code_constants (Some (body_in_target b)) ++ [])),
+      count_next (constants.Utf8 old.descriptor) (code_constants (Some (body_in_target b)) ++ []),
+      count_then (code_constants (Some (body_in_target b))) [],
+      count_next (constants.Utf8 (codes "Code")) (all_constants (map read_in_target b.insns) ++ []),
+      count_then (all_constants (map read_in_target b.insns)) [],
+      code_count own b.insns simple,
+    ))
 
--- ---- How many bytes they take
+members_set : (methods : List Member) (place : ℕ) (method : Member) → sum_by numbers_of (members_need (set methods place method)) ≤ sum_by numbers_of (members_need methods) + sum_by numbers_of (member_needs method)
+members_set [] place method = omega arith
+members_set (old ∷ methods) zero method =
+    omega (arith, sum_by-append numbers_of (members_need methods) (member_needs old), sum_by-append numbers_of (members_need methods) (member_needs method))
+members_set (old ∷ methods) (suc place) method =
+    omega (arith, sum_by-append numbers_of (members_need methods) (member_needs old), sum_by-append numbers_of (members_need (set methods place method)) (member_needs old), members_set methods place method)
 
-length_2 : (a b : List ℕ) → length (a ++ b) ≡ length a + length b
-length_2 a b = length-append a b
+class_count : (notes methods others : List Const) → sum_by numbers_of (notes ++ (methods ++ others)) ≡ sum_by numbers_of notes + sum_by numbers_of methods + sum_by numbers_of others
+class_count notes methods others = omega (arith, sum_by-append numbers_of notes (methods ++ others), sum_by-append numbers_of methods others)
 
-length_4 : (a b d e : List ℕ) → length (a ++ (b ++ (d ++ e))) ≡ length a + (length b + (length d + length e))
-length_4 a b d e = simp length-append
-
-length_6 : (a b d e f g : List ℕ) → length (a ++ (b ++ (d ++ (e ++ (f ++ g))))) ≡ length a + (length b + (length d + (length e + (length f + length g))))
-length_6 a b d e f g = simp length-append
-
-length_10 : (a b d e f g h i j k : List ℕ) → length (a ++ (b ++ (d ++ (e ++ (f ++ (g ++ (h ++ (i ++ (j ++ k))))))))) ≡ length a + (length b + (length d + (length e + (length f + (length g + (length h + (length i + (length j + length k))))))))
-length_10 a b d e f g h i j k = simp length-append
-
--- code with few bytes
-abbrev pub HasShortCode : ℕ → Member → Type 0
-HasShortCode room method = IsSomeAnd method.body (λ body. code_size body.insns ≤ room)
-
-code_room : (pool : List PoolEntry) (body : Body) (bytes : List ℕ) → IsCode pool body bytes → code_size body.insns + 2 ≤ length bytes
-code_room pool body bytes is =
-    let code = is.meets.code in
-    let size = size_spelled pool body.insns code (record { parts = is.meets.insns.parts; each = is.meets.insns.each; joined = is.meets.insns.joined }) in
-    omega (arith, size, ap length is.meets.spelled, length_6 (u2 body.max_stack) (u2 body.max_locals) (u4 (length code)) code (u2 0) (u2 0), ap length is.spelled, length-append (u2 is.number) (u4 (length is.content) ++ is.content), length-append (u4 (length is.content)) is.content)
-
-attributes_room : (role : Role) (pool : List PoolEntry) (body : Body) (bytes : List ℕ) → SpellsMethodAttributes role pool body bytes → code_size body.insns + 2 ≤ length bytes
-attributes_room Game pool body bytes (code, is, spelled) = omega (arith, code_room pool body code is, ap length spelled, length-append (u2 1) code)
-attributes_room Mixin pool body bytes (code, table, is, other, inl spelled) = omega (arith, code_room pool body code is, ap length spelled, length-append (u2 2) (code ++ table), length-append code table)
-attributes_room Mixin pool body bytes (code, table, is, other, inr spelled) = omega (arith, code_room pool body code is, ap length spelled, length-append (u2 2) (table ++ code), length-append table code)
-
-method_room : (role : Role) (pool : List PoolEntry) (method : Member) (bytes : List ℕ) → (s : SpellsMethod role pool method bytes) → code_size s.body.insns + 2 ≤ length bytes
-method_room role pool method bytes s =
-    omega (arith, attributes_room role pool s.body s.attributes s.attributes_spelled, ap length s.spelled, length_4 (u2 method.flags.0) (u2 s.name_number) (u2 s.descriptor_number) s.attributes)
-
-methods_count : (role : Role) (pool : List PoolEntry) (methods : List Member) (parts : List (List ℕ)) → AllZip (SpellsMethod role pool) methods parts → count (flat_map method_constants methods) ≤ 2 * length (concat parts)
-methods_count role pool [] parts h = omega arith
-methods_count role pool (method ∷ methods) [] h = absurd h
-methods_count role pool (method ∷ methods) (part ∷ parts) h =
-    let joined : concat (part ∷ parts) ≡ part ++ concat parts = refl in
-    omega (arith, count_pieces method_constants method methods, method_count method h.0.body h.0.has_body, method_room role pool method part h.0, methods_count role pool methods parts h.1, ap length joined, length-append part (concat parts))
-
-methods_short : (role : Role) (pool : List PoolEntry) (methods : List Member) (parts : List (List ℕ)) (room : ℕ) → AllZip (SpellsMethod role pool) methods parts → length (concat parts) ≤ room → AllByRecursion (HasShortCode room) methods
-methods_short role pool [] parts room h few = tt
-methods_short role pool (method ∷ methods) [] room h few = absurd h
-methods_short role pool (method ∷ methods) (part ∷ parts) room h few =
-    let joined : concat (part ∷ parts) ≡ part ++ concat parts = refl in (
-      subst (λ (o : Option Body). IsSomeAnd o (λ body. code_size body.insns ≤ room)) (sym h.0.has_body) (omega (arith, method_room role pool method part h.0, few, ap length joined, length-append part (concat parts))),
-      methods_short role pool methods parts room h.1 (omega (arith, few, ap length joined, length-append part (concat parts))),
-    )
-
-entry_room : (pool : List PoolEntry) (e : PoolEntry) → IsPlainEntry pool e → 1 ≤ length (entry_bytes e)
-entry_room pool (entries.Utf8 x) h = omega arith
-entry_room pool (entries.Class n) h = omega arith
-entry_room pool (entries.Field m n) h = omega arith
-entry_room pool (entries.Method m n) h = omega arith
-entry_room pool (entries.NameAndType m n) h = omega arith
-entry_room pool (entries.Integer v) h = absurd h
-entry_room pool (entries.Float b) h = absurd h
-entry_room pool (entries.Long v) h = absurd h
-entry_room pool (entries.Double b) h = absurd h
-entry_room pool (entries.String n) h = absurd h
-entry_room pool (entries.InterfaceMethod m n) h = absurd h
-entry_room pool (entries.MethodHandle m n) h = absurd h
-entry_room pool (entries.MethodType n) h = absurd h
-entry_room pool (entries.InvokeDynamic m n) h = absurd h
-entry_room pool entries.Unusable h = absurd h
-
-entries_room : (pool rest : List PoolEntry) → AllByRecursion (IsPlainEntry pool) rest → length rest ≤ length (flat_map entry_bytes rest)
-entries_room pool [] h = omega arith
-entries_room pool (e ∷ rest) h = omega (arith, ap length (flat_map-cons entry_bytes e rest), length-append (entry_bytes e) (flat_map entry_bytes rest), entry_room pool e h.0, entries_room pool rest h.1)
-
--- the pool and the methods are within the bytes
-class_room : (role : Role) (class : ClassFile) (bytes : List ℕ) → (s : Spells role bytes class) → length class.pool + length (concat s.parts) ≤ length bytes
-class_room role class bytes s =
+class_set : (class : ClassFile) (version : ClassVersion) (place : ℕ) (method : Member)
+    → sum_by numbers_of (class_needs (record class { version = version; methods = set class.methods place method })) ≤ sum_by numbers_of (class_needs class) + sum_by numbers_of (member_needs method)
+class_set class version place method =
+    let others = members_need class.fields ++ parts_of (head_constants class) in
     omega (
       arith,
-      ap length s.spelled,
-      length_10 (head_bytes class) (pool_bytes class.pool) (u2 class.flags.0) (u2 s.this_number) (u2 s.super_number) (u2 0) (u2 0) (u2 (length class.methods)) (concat s.parts) s.attributes,
-      length-append (u2 (length class.pool + 1)) (flat_map entry_bytes class.pool),
-      entries_room class.pool class.pool s.pool.1,
+      class_count (annotations_need class.notes) (members_need class.methods) others,
+      class_count (annotations_need class.notes) (members_need (set class.methods place method)) others,
+      members_set class.methods place method,
     )
+
+-- ---- How much there is in methods
+
+-- a method without lists that are too long, and with little code, all of it plain
+pub record IsLittle (n : ℕ) (m : Member) : Type 0 where
+  pub role : Role
+  pub own : List ℕ
+  pub body : Body
+  pub has_body : m.body ≡ Some body
+  pub simple : AllByRecursion (IsSimple role own) body.insns
+  pub few : length body.insns ≤ n
+  pub no_throws : m.throws ≡ []
+  pub attributes : member_attributes m ≤ n
+
+thin_little : (role : Role) (own : List ℕ) (n : ℕ) (m : Member) → IsThinMethod role own m → IsSmallMethod n m → IsLittle n m
+thin_little role own n m thin small =
+    let b = some_body m.body (IsPlainBody role own m.descriptor) thin.plain.code in
+    record {
+      role = role;
+      own = own;
+      body = b.0;
+      has_body = b.1;
+      simple = all_simple role own b.0.insns b.2.plain;
+      few = subst (HasFewInsns n) b.1 small.insns;
+      no_throws = thin.no_throws;
+      attributes = small.attributes;
+    }
+
+all_little : (role : Role) (own : List ℕ) (n : ℕ) (methods : List Member) → AllByRecursion (IsThinMethod role own) methods → AllByRecursion (IsSmallMethod n) methods → AllByRecursion (IsLittle n) methods
+all_little role own n [] thin small = tt
+all_little role own n (m ∷ methods) thin small = (thin_little role own n m thin.0 small.0, all_little role own n methods thin.1 small.1)
+
+-- ---- Lists that are too long
+
+little_short : (n : ℕ) (m : Member) → n ≤ 65535 → IsLittle n m → HasLong m → ⊥
+little_short n m few is (inl long) = omega (arith, few, long, ap length is.no_throws)
+little_short n m few is (inr long) = omega (arith, few, long, is.attributes)
+
+some_short : (n : ℕ) (methods : List Member) → n ≤ 65535 → AllByRecursion (IsLittle n) methods → SomeHasLong methods → ⊥
+some_short n methods few all (k, m, at, long) = little_short n m few (all_at (IsLittle n) methods k m at all) long
+
+lists_short : (n : ℕ) (c : ClassFile) → n ≤ 65535 → c.interfaces ≡ [] → c.fields ≡ [] → length c.methods ≤ n → class_attributes c ≤ n → AllByRecursion (IsLittle n) c.methods → HasLongList c → ⊥
+lists_short n c few interfaces fields methods attributes all (inl long) = omega (arith, long, ap length interfaces)
+lists_short n c few interfaces fields methods attributes all (inr (inl long)) = omega (arith, long, ap length fields)
+lists_short n c few interfaces fields methods attributes all (inr (inr (inl long))) = omega (arith, long, methods, few)
+lists_short n c few interfaces fields methods attributes all (inr (inr (inr (inl long)))) = omega (arith, long, attributes, few)
+lists_short n c few interfaces fields methods attributes all (inr (inr (inr (inr (inl some))))) = none_long (subst SomeHasLong fields some)
+  where
+    none_long : SomeHasLong [] → ⊥
+    none_long (k, m, at, long) = cc
+lists_short n c few interfaces fields methods attributes all (inr (inr (inr (inr (inr some))))) = some_short n c.methods few all some
+
+-- ---- Code
+
+insn_takes : {role : Role} {own : List ℕ} {insn : Insn} (pool : List PoolEntry) (at bytes : ℕ) → IsSimple role own insn → Takes pool at insn bytes → bytes ≤ 3
+insn_takes pool at bytes (plain is) (long, widens, takes) = omega (arith, takes)
+insn_takes pool at bytes (push {op = op} is fits) (long, widens, takes) = go (op == bipush) takes
+  where
+    go : (small : Bool) → bytes ≡ cond small 2 3 → bytes ≤ 3
+    go true e = omega (arith, e)
+    go false e = omega (arith, e)
+insn_takes pool at bytes (reference {op = op} member is) (long, widens, takes) = go op (is_member is) takes
+  where
+    is_member : {role : Role} {own : List ℕ} {m : MemberReference} → IsPlainReference role own op m → op ≤ 184
+    is_member (inl h) = omega (arith, h.0)
+    is_member (inr (inl h)) = omega (arith, h.0)
+    is_member (inr (inr h)) = omega (arith, h.0)
+
+    go : (code : ℕ) → code ≤ 184 → bytes ≡ cond (code == invokeinterface) 5 3 → bytes ≤ 3
+    go code small e = grind (arith, nat_tests)
+
+stand_short : (role : Role) (own : List ℕ) (pool : List PoolEntry) (at : ℕ) (code : List Insn) (offsets : List ℕ) (end : ℕ) → AllByRecursion (IsSimple role own) code → Stand pool at code offsets end → end ≤ at + 3 * length code
+stand_short role own pool at [] [] end is h = omega (arith, h)
+stand_short role own pool at [] (o ∷ offsets) end is h = absurd h
+stand_short role own pool at (insn ∷ code) [] end is h = absurd h
+stand_short role own pool at (insn ∷ code) (o ∷ offsets) end is (from, (bytes, takes, stands)) =
+    omega (arith, insn_takes pool at bytes is.0 takes, stand_short role own pool (at + bytes) code offsets end is.1 stands)
+
+not_large : (role : Role) (own : List ℕ) (n : ℕ) (pool : List PoolEntry) (code : List Insn) → AllByRecursion (IsSimple role own) code → length code ≤ n → 3 * n ≤ 65535 → IsLarge pool code → ⊥
+not_large role own n pool code is few small h =
+    let front = (all_parts (IsSimple role own) h.front h.back (subst (AllByRecursion (IsSimple role own)) h.parts is)).0 in
+    omega (arith, few, small, h.passes, stand_short role own pool 0 h.front h.offsets h.end front h.stand, ap length h.parts, length-append h.front h.back)
+
+reaches : {role : Role} {own : List ℕ} {insn : Insn} (offsets : List ℕ) (at : ℕ) → IsSimple role own insn → Reaches offsets at insn
+reaches offsets at (plain is) = tt
+reaches offsets at (push is fits) = tt
+reaches offsets at (reference member is) = tt
+
+not_far : (role : Role) (own : List ℕ) (pool : List PoolEntry) (code : List Insn) → AllByRecursion (IsSimple role own) code → LeavesFar pool code → ⊥
+not_far role own pool code is h = h.far.far (reaches h.offsets (slice_index h.offsets h.far.index) (all_at (IsSimple role own) code h.far.index h.far.jump h.far.found is))
+
+code_fits : (n : ℕ) (pool : List PoolEntry) (m : Member) (fault : LimitFault) → 3 * n ≤ 65535 → IsLittle n m → BreaksLimit pool m.body fault → ⊥
+code_fits n pool m fault small is h = go fault (subst (λ (o : Option Body). BreaksLimit pool o fault) is.has_body h)
+  where
+    go : (fault : LimitFault) → BreaksLimit pool (Some is.body) fault → ⊥
+    go faults.CodeLarge k = not_large is.role is.own n pool is.body.insns is.simple is.few small k
+    go faults.BranchFar k = not_far is.role is.own pool is.body.insns is.simple k
+    go faults.PoolLarge k = absurd k
+    go faults.Memory k = absurd k
+
+none_first : (n : ℕ) (pool : List PoolEntry) (methods : List Member) (fault : LimitFault) → 3 * n ≤ 65535 → AllByRecursion (IsLittle n) methods → FirstOf pool methods fault → ⊥
+none_first n pool methods fault small all h =
+    let behind = (all_parts (IsLittle n) h.before (h.method ∷ h.after) (subst (AllByRecursion (IsLittle n)) h.parts all)).1 in
+    code_fits n pool h.method fault small behind.0 h.breaks
+
+-- a class in which nothing is long passes no limit
+within : (n : ℕ) (c : ClassFile) (fault : LimitFault) → 3 * n ≤ 65535 → AllByRecursion (IsLittle n) c.methods → (IsTooLong c → ⊥) → IsCause c fault → fault ≡ faults.Memory
+within n c faults.PoolLarge small all short h = absurd (short h)
+within n c faults.CodeLarge small all short h = absurd (none_first n h.pool c.methods faults.CodeLarge small all h.first)
+within n c faults.BranchFar small all short h = absurd (none_first n h.pool c.methods faults.BranchFar small all h.first)
+within n c faults.Memory small all short h = refl
+
+-- ---- The class
 
 most : most_bytes ≡ 4096
 unfolding most_bytes
 most = refl
 
--- ---- An overwrite
+-- what is known of a thin class by its bytes
+pub thin_small : (role : Role) (bytes : List ℕ) (class : ClassFile) → IsThinClass role bytes class → IsSmall (length bytes) class
+thin_small role bytes class is =
+    read_small bytes class is.0 (all_weaker (IsThinMethod role class.name) (λ (m : Member). HasNoFrames m.body) class.methods (no_frames role class.name) is.1.1.methods)
 
-insns_size : (code : List Insn) → code_size (map read_in_target code) ≡ code_size code
-insns_size [] = refl
-insns_size (insn ∷ code) = omega (arith, sum_by-cons insn_size insn code, sum_by-cons insn_size (read_in_target insn) (map read_in_target code), same insn, insns_size code)
-  where
-    same : (insn : Insn) → insn_size (read_in_target insn) ≡ insn_size insn
-    same (insns.Plain op) = refl
-    same (insns.Push op value) = refl
-    same (insns.Reference op owner name descriptor interface) = refl
-    same (insns.Load op value) = refl
-    same (insns.Local op slot wide) = refl
-    same (insns.Inc slot by wide) = refl
-    same (insns.Branch op to) = refl
-    same (insns.Table low other targets) = refl
-    same (insns.Lookup other cases) = refl
-    same (insns.Site bootstrap name descriptor) = refl
-    same (insns.Class op class) = refl
-    same (insns.NewArray kind) = refl
-    same (insns.MultiArray class dimensions) = refl
+methods_little : (role : Role) (bytes : List ℕ) (class : ClassFile) → IsThinClass role bytes class → AllByRecursion (IsLittle 4096) class.methods
+methods_little role bytes class is =
+    all_weaker (IsLittle (length bytes)) (IsLittle 4096) class.methods (λ m h. record {
+      role = h.role;
+      own = h.own;
+      body = h.body;
+      has_body = h.has_body;
+      simple = h.simple;
+      few = omega (arith, h.few, is.1.0, most);
+      no_throws = h.no_throws;
+      attributes = omega (arith, h.attributes, is.1.0, most);
+    })
+    (all_little role class.name (length bytes) class.methods is.1.1.methods (thin_small role bytes class is).each)
 
-pub some_body : (body : Option Body) (P : Body → Type 0) → IsSomeAnd body P → (b : Body) × (body ≡ Some b) × P b
-some_body None P h = absurd h
-some_body (Some b) P h = (b, refl, h)
+-- a method of the mixin, in the place of one that it overwrites
+overwritten_little : (old origin : Member) (b : Body) → origin.body ≡ Some b → AllByRecursion (IsSimple Mixin (class_name Mixin)) b.insns → length b.insns ≤ 4096 → IsLittle 4096 (overwritten old origin)
+overwritten_little old origin b is simple few = record {
+  role = Game;
+  own = class_name Game;
+  body = body_in_target b;
+  has_body = ap (option_map body_in_target) is;
+  simple = insns_read b.insns simple;
+  few = omega (arith, few, length-map b.insns read_in_target);
+  no_throws = refl;
+  attributes = subst (λ (o : Option Body). 0 + one_if (option_map body_in_target o) + 0 + 0 + 0 ≤ 4096) (sym is) (omega arith);
+}
 
-overwritten_short : (old origin : Member) (room : ℕ) → HasShortCode room origin → HasShortCode room (overwritten old origin)
-overwritten_short old origin room h =
-    let b = some_body origin.body (λ body. code_size body.insns ≤ room) h in
-    subst (λ (o : Option Body). IsSomeAnd (option_map body_in_target o) (λ body. code_size body.insns ≤ room)) (sym b.1) (omega (arith, insns_size b.0.insns, b.2))
+module _ (game mixin woven : ClassFile) (is : IsOverwritten game mixin woven) where
+  few_insns : (b : Body) → is.origin.body ≡ Some b → length b.insns ≤ 4096
+  few_insns b has =
+      let small = all_contained (IsSmallMethod (length is.other)) mixin.methods is.origin (thin_small Mixin is.other mixin is.is_mixin).each is.of_mixin in
+      let few : length b.insns ≤ length is.other = subst (HasFewInsns (length is.other)) has small.insns in
+      omega (arith, few, is.is_mixin.1.0, most)
 
-short_count : (method : Member) (room : ℕ) → HasShortCode room method → count (method_constants method) ≤ 3 + 2 * room
-short_count method room h =
-    let b = some_body method.body (λ body. code_size body.insns ≤ room) h in omega (arith, method_count method b.0 b.1, b.2)
+  -- the game's class with another version and with a method of the mixin
+  made_within : (version : ClassVersion) (old : Member) (fault : LimitFault) → IsCause (record game { version = version; methods = set game.methods is.place (overwritten old is.origin) }) fault → fault ≡ faults.Memory
+  made_within version old fault =
+      let b = some_body is.origin.body (IsPlainBody Mixin (class_name Mixin) is.origin.descriptor) (origin_plain game mixin woven is).code in
+      let simple : AllByRecursion (IsSimple Mixin (class_name Mixin)) b.0.insns = all_simple Mixin (class_name Mixin) b.0.insns b.2.plain in
+      let few : length b.0.insns ≤ 4096 = few_insns b.0 b.1 in
+      let small = thin_small Game is.bytes game is.is_game in
+      let bound : length is.bytes ≤ 4096 = omega (arith, is.is_game.1.0, most) in
+      let all = all_set (IsLittle 4096) game.methods is.place (overwritten old is.origin) (methods_little Game is.bytes game is.is_game) (overwritten_little old is.origin b.0 b.1 simple few) in
+      let made = record game { version = version; methods = set game.methods is.place (overwritten old is.origin) } in
+      let methods : length made.methods ≤ 4096 = omega (arith, small.methods, bound, length-set game.methods is.place (overwritten old is.origin)) in
+      let attributes : class_attributes made ≤ 4096 = omega (arith, small.attributes, bound) in
+      let numbers : sum_by numbers_of (class_needs made) ≤ 40963 =
+      omega (arith, class_set game version is.place (overwritten old is.origin), overwritten_count (class_name Mixin) old is.origin b.0 b.1 simple, few, small.constants, bound) in
+      within 4096 made fault (omega arith) all (λ long. elim long [
+        | inl list ↦ lists_short 4096 made (omega arith) is.is_game.1.1.no_interfaces is.is_game.1.1.no_fields methods attributes all list
+        | inr many ↦ omega (arith, many_numbers game.pool (class_needs made) many, numbers, small.pool, bound)
+      ])
 
-count_set : (methods : List Member) (place : ℕ) (method : Member) → count (flat_map method_constants (set methods place method)) ≤ count (flat_map method_constants methods) + count (method_constants method)
-count_set [] place method = omega arith
-count_set (old ∷ methods) zero method = omega (arith, count_pieces method_constants old methods, count_pieces method_constants method methods)
-count_set (old ∷ methods) (suc place) method = omega (arith, count_pieces method_constants old methods, count_pieces method_constants old (set methods place method), count_set methods place method)
-
-pub get_all : {X : Type 0} (P : X → Type 0) (xs : List X) (x : X) → AllByRecursion P xs → Contains xs x → P x
-get_all P xs x all (k, within, is) = subst P is (go xs k within all)
-  where
-    go : (ys : List _) (i : ℕ) → i < length ys → AllByRecursion P ys → P (get_or ys i x)
-    go [] i lt h = absurd (omega arith)
-    go (y ∷ ys) zero lt h = h.0
-    go (y ∷ ys) (suc i) lt h = go ys i (omega arith) h.1
-
-too_long : (body : Option Body) → IsSomeAnd body (λ b. code_size b.insns ≤ 4096) → IsSomeAnd body (λ b. 65535 < code_size b.insns) → ⊥
-too_long None h k = absurd h
-too_long (Some b) h k = omega (arith, h, k)
-
-module _ (game mixin woven : ClassFile) (origin : Member) (bytes other : List ℕ) (place : ℕ) (read : IsPlainClass Game bytes game) (mixed : IsPlainClass Mixin other mixin) (there : Contains mixin.methods origin) (by : IsOverwrite game place origin woven) where
-  origin_short : HasShortCode 4096 origin
-  origin_short =
-      get_all (HasShortCode 4096) mixin.methods origin
-      (methods_short Mixin mixin.pool mixin.methods mixed.spelled.parts 4096 mixed.spelled.methods (omega (arith, class_room Mixin mixin other mixed.spelled, mixed.small, most))) there
-
-  pub woven_writable : IsWritable woven
-  woven_writable = overwrite_writable game woven place origin (read_writable game bytes read) (get_all _ mixin.methods origin (mixin_code mixin other mixed) there) by
-
-  made_count : count (class_constants (record game { methods = slice_set game.methods place (overwritten by.old origin) })) ≤ 16391
-  made_count =
-      omega (
-        arith,
-        count_then (constants.Class game.name ∷ constants.Class game.superclass ∷ []) (flat_map method_constants (set game.methods place (overwritten by.old origin))),
-        count_set game.methods place (overwritten by.old origin),
-        short_count (overwritten by.old origin) 4096 (overwritten_short by.old origin 4096 origin_short),
-        methods_count Game game.pool game.methods read.spelled.parts read.spelled.methods,
-        class_room Game game bytes read.spelled,
-        read.small,
-        most,
-      )
-
-  pub pool_fits : AreTooMany woven.pool (parts_of (class_constants woven)) → ⊥
-  pool_fits t =
-      let few : count (class_constants woven) ≤ 16391 = subst (λ (c : ClassFile). count (class_constants c) ≤ 16391) (sym by.made) made_count in
-      let pool : length woven.pool ≡ length game.pool = ap (λ (c : ClassFile). length c.pool) by.made in
-      omega (arith, few, pool, many_length woven.pool (parts_of (class_constants woven)) (all_plain (class_constants woven) woven_writable.constants) t, class_room Game game bytes read.spelled, read.small, most)
-
-  code_fits : AllByRecursion (HasShortCode 4096) woven.methods
-  code_fits =
-      subst (λ (c : ClassFile). AllByRecursion (HasShortCode 4096) c.methods) (sym by.made)
-      (all_set (HasShortCode 4096) game.methods place (overwritten by.old origin)
-      (methods_short Game game.pool game.methods read.spelled.parts 4096 read.spelled.methods (omega (arith, class_room Game game bytes read.spelled, read.small, most)))
-      (overwritten_short by.old origin 4096 origin_short))
-
-  -- the woven class passes no limit
-  pub no_limit : (fault : LimitFault) → Exceeds woven fault → fault ≡ faults.Memory
-  no_limit faults.PoolLarge h = absurd (pool_fits h)
-  no_limit faults.CodeLarge h = absurd (too_long h.0.body (get_all (HasShortCode 4096) woven.methods h.0 code_fits h.1) h.2)
-  no_limit faults.BranchFar h = absurd h
-  no_limit faults.Memory h = refl
+  pub woven_within : (fault : LimitFault) → IsCause woven fault → fault ≡ faults.Memory
+  woven_within fault = subst (λ (c : ClassFile). IsCause c fault → fault ≡ faults.Memory) (sym is.made.made) (made_within _ is.made.old fault)

@@ -1,52 +1,63 @@
--- The bytes of a class that was overwritten are what is written for the two classes.
-use Rattle.std.proofs.Common.{◌≡◌, ℕ, zero, suc, ◌<◌, List, [], ◌∷◌, ◌++◌, map, length, set, get_or, Option, Some, option_map, refl, sym, ap, subst, ◌∙◌, ◌⊎◌, inl, inr, arith}
-use Rattle.std.specs.Prelude.{AllPairs, Contains, slice_get, IsSomeAnd}
+-- What is written of a class in which a method of the mixin overwrites one is what is written for the two classes.
+use Rattle.std.proofs.Common.{◌≡◌, ℕ, zero, suc, Bool, List, [], ◌∷◌, ◌++◌, map, set, length, get_or, Option, Some, None, option_map, refl, sym, ap, subst, ◌∙◌, inl, inr, arith}
+use Rattle.std.specs.Prelude.{Contains, slice_get, IsSomeAnd}
 use Rattle.std.specs.List.{AllByRecursion, AllZip, zip}
 use Rattle.wv_base.specs.declared.class_file.Body.{Body}
 use Rattle.wv_base.specs.declared.class_file.ClassFile.{ClassFile}
+use Rattle.wv_base.specs.declared.class_file.ClassVersion.{ClassVersion}
 use Rattle.wv_base.specs.declared.class_file.Member.{Member}
+use Rattle.wv_base.specs.declared.class_file.PoolEntry.{PoolEntry}
 use Rattle.wv_base.specs.declared.constant.MemberReference.{MemberReference}
 use Rattle.wv_base.specs.declared.insn.Insn.{Insn}
 use Rattle.wv_base.specs.declared.insn.Insn.TheVariants as insns
 use Rattle.wv_base.specs.Opcodes.{return}
-use Rattle.wv_model.specs.PlainCode.{Game, Mixin, class_name, IsPlainReference, IsPlainInsn, EndsWithReturn}
-use Rattle.wv_model.specs.PlainTyping.{Stack, Row, iconst, push, arithmetic, dropped, returned, read_out, printed, called, Leads}
-use Rattle.wv_model.specs.PlainClass.{AreSame, IsPlainBody, IsPlainMethod}
-use Rattle.wv_model.specs.MemberTable.{meaning_of, read_in_target, body_in_target, overwritten, IsMember, replaced, unchanged, written_path, IsWritten}
+use Rattle.wv_class.specs.Formed.{AreDistinct}
+use Rattle.wv_class.specs.Same.{IsSameBodyIn, IsSameMember, IsSameClass, Writes}
+use Rattle.wv_code.specs.Code.{AreWidened}
+use Rattle.wv_code.specs.Meaning.{widened}
+use Rattle.wv_model.specs.PlainCode.{Role, Game, Mixin, class_name, IsPlainReference, IsPlainInsn, EndsWithReturn}
+use Rattle.wv_model.specs.PlainTyping.{Stack, Row, iconst, push as pushed, arithmetic, dropped, returned, read_out, printed, called, Leads}
+use Rattle.wv_model.specs.PlainMethod.{AreSame, IsPlainBody, IsPlainMethod, IsGameMethod}
+use Rattle.wv_model.specs.MemberTable.{read_in_target, body_in_target, overwritten, IsMember, replaced, unchanged}
 use Rattle.wv_pool.proofs.Behind.{some_is}
-use Rattle.wv_weave.specs.Writing.{IsClassBytes, IsOverwritten}
-use Rattle.wv_weave.proofs.WovenForm.{all_set}
-use Rattle.wv_weave.proofs.WovenLimits.{some_body, get_all}
+use Rattle.wv_weave.specs.Overwrite.{IsOverwritten}
+use Rattle.wv_weave.specs.WovenFiles.{written_version, written_path, IsWritten}
+use Rattle.wv_weave.proofs.WovenForm.{all_weaker, all_set, all_at, IsSimple, plain, push, reference, all_simple, some_body, insns_read, game_formed, plain_methods, origin_plain}
 
 -- ---- Code of the mixin as it is read in the target
 
-reference_read : (op : ℕ) (m : MemberReference) → IsPlainReference Mixin op m → IsPlainReference Game op (record m { owner = meaning_of m.owner })
-reference_read op m (inl h) = inl (h.0, ap (λ (r : MemberReference). record r { owner = meaning_of r.owner }) h.1)
-reference_read op m (inr (inl h)) = inr (inl (h.0, ap (λ (r : MemberReference). record r { owner = meaning_of r.owner }) h.1))
-reference_read op m (inr (inr h)) = inr (inr (h.0, record { owner = owner m.owner h.1.owner; ordinary = h.1.ordinary; descriptor = h.1.descriptor }))
-  where
-    owner : (name : List ℕ) → (name ≡ class_name Game) ⊎ (name ≡ class_name Mixin) → meaning_of name ≡ class_name Game
-    owner name (inl e) = ap meaning_of e
-    owner name (inr e) = ap meaning_of e
+-- plain code of the game's class is the same whatever the class's name
+other_name : (own other : List ℕ) (op : ℕ) (m : MemberReference) → IsPlainReference Game own op m → IsPlainReference Game other op m
+other_name own other op m (inl h) = inl h
+other_name own other op m (inr (inl h)) = inr (inl h)
+other_name own other op m (inr (inr h)) = inr (inr (h.0, record { owner = h.1.owner; ordinary = h.1.ordinary; descriptor = h.1.descriptor }))
 
-insn_plain : (insn : Insn) → IsPlainInsn Mixin insn → IsPlainInsn Game (read_in_target insn)
-insn_plain (insns.Plain op) h = h
-insn_plain (insns.Push op value) h = h
-insn_plain (insns.Reference op owner name descriptor interface) h = (h.0, reference_read op (record { owner = owner; name = name; descriptor = descriptor }) h.1)
-insn_plain (insns.Load op value) h = absurd h
-insn_plain (insns.Local op slot wide) h = absurd h
-insn_plain (insns.Inc slot by wide) h = absurd h
-insn_plain (insns.Branch op to) h = absurd h
-insn_plain (insns.Table low other targets) h = absurd h
-insn_plain (insns.Lookup other cases) h = absurd h
-insn_plain (insns.Site bootstrap name descriptor) h = absurd h
-insn_plain (insns.Class op class) h = absurd h
-insn_plain (insns.NewArray kind) h = absurd h
-insn_plain (insns.MultiArray class dimensions) h = absurd h
+game_insn : {own : List ℕ} {insn : Insn} (other : List ℕ) → IsSimple Game own insn → IsPlainInsn Game other insn
+game_insn other (plain is) = is
+game_insn other (push is fits) = (is, fits)
+game_insn {own} other (reference {op = op} {owner = owner} {name = name} {descriptor = descriptor} class is) = (class, other_name own other op (record { owner = owner; name = name; descriptor = descriptor }) is)
 
-insns_plain : (code : List Insn) → AllByRecursion (IsPlainInsn Mixin) code → AllByRecursion (IsPlainInsn Game) (map read_in_target code)
-insns_plain [] h = tt
-insns_plain (insn ∷ code) h = (insn_plain insn h.0, insns_plain code h.1)
+game_insns : (own other : List ℕ) (code : List Insn) → AllByRecursion (IsSimple Game own) code → AllByRecursion (IsPlainInsn Game other) code
+game_insns own other [] h = tt
+game_insns own other (insn ∷ code) h = (game_insn other h.0, game_insns own other code h.1)
+
+-- a method of a class of the game is one of the game's class
+game_method : (own : List ℕ) (method : Member) → IsPlainMethod Game own method → IsGameMethod method
+game_method own method h =
+    let b = some_body method.body (IsPlainBody Game own method.descriptor) h.code in
+    record {
+      flags = h.flags;
+      name = h.name;
+      ordinary = h.ordinary;
+      descriptor = h.descriptor;
+      code = subst (λ (o : Option Body). IsSomeAnd o (IsPlainBody Game (class_name Game) method.descriptor)) (sym b.1) (record {
+        plain = game_insns own (class_name Game) b.0.insns (all_simple Game own b.0.insns b.2.plain);
+        ends = b.2.ends;
+        verifies = b.2.verifies;
+        no_ranges = b.2.no_ranges;
+        no_frames = b.2.no_frames;
+      });
+    }
 
 return_read : (insn : Insn) → read_in_target insn ≡ insns.Plain return → insn ≡ insns.Plain return
 return_read (insns.Plain op) e = e
@@ -80,7 +91,7 @@ ends_read code h = record {
 
 row_read : {insn : Insn} {taken put : Stack} → Row insn taken put → Row (read_in_target insn) taken put
 row_read (iconst low high) = iconst low high
-row_read (push e) = push e
+row_read (pushed e) = pushed e
 row_read (arithmetic e) = arithmetic e
 row_read (dropped e) = dropped e
 row_read (returned e) = returned e
@@ -94,9 +105,9 @@ leads_read (insn ∷ code) [] h = absurd h
 leads_read (insn ∷ code) (state ∷ states) h =
     (record { taken = h.0.taken; put = h.0.put; rest = h.0.rest; row = row_read h.0.row; from = h.0.from; to = h.0.to }, leads_read code states h.1)
 
-body_read : (descriptor other : List ℕ) (body : Body) → other ≡ descriptor → IsPlainBody Mixin descriptor body → IsPlainBody Game other (body_in_target body)
+body_read : (descriptor other : List ℕ) (body : Body) → other ≡ descriptor → IsPlainBody Mixin (class_name Mixin) descriptor body → IsPlainBody Game (class_name Game) other (body_in_target body)
 body_read descriptor other body same h = record {
-  plain = insns_plain body.insns h.plain;
+  plain = game_insns (class_name Game) (class_name Game) (map read_in_target body.insns) (insns_read body.insns (all_simple Mixin (class_name Mixin) body.insns h.plain));
   ends = ends_read body.insns h.ends;
   verifies = record {
     typing = record {
@@ -108,55 +119,54 @@ body_read descriptor other body same h = record {
     parameters = rw same h.verifies.parameters;
     locals = h.verifies.locals;
   };
+  no_ranges = refl;
+  no_frames = refl;
 }
 
-method_read : (old origin : Member) → AreSame old origin → IsPlainMethod Game old → IsPlainMethod Mixin origin → IsPlainMethod Game (overwritten old origin)
+method_read : (old origin : Member) → AreSame old origin → IsGameMethod old → IsPlainMethod Mixin (class_name Mixin) origin → IsGameMethod (overwritten old origin)
 method_read old origin same was is =
-    let b = some_body origin.body (IsPlainBody Mixin origin.descriptor) is.code in
+    let b = some_body origin.body (IsPlainBody Mixin (class_name Mixin) origin.descriptor) is.code in
     record {
       flags = was.flags;
       name = was.name;
       ordinary = was.ordinary;
       descriptor = was.descriptor;
-      code = subst (λ (o : Option Body). IsSomeAnd (option_map body_in_target o) (IsPlainBody Game old.descriptor)) (sym b.1) (body_read origin.descriptor old.descriptor b.0 same.1 b.2);
+      code = subst (λ (o : Option Body). IsSomeAnd (option_map body_in_target o) (IsPlainBody Game (class_name Game) old.descriptor)) (sym b.1) (body_read origin.descriptor old.descriptor b.0 same.1 b.2);
     }
 
 -- ---- The table
 
 -- no method of the list has the name and the descriptor of this one
-others : (method : Member) (methods : List Member) → AllPairs (λ first later. AreSame first later → ⊥) (method ∷ methods) → (i : ℕ) (d : Member) → i < length methods → AreSame method (get_or methods i d) → ⊥
-others method methods distinct i d within = distinct 0 (suc i) d (omega arith) (omega arith)
+abbrev NoneSame : Member → List Member → Type 0
+NoneSame method methods = (k : ℕ) (other : Member) → slice_get methods k ≡ Some other → AreSame method other → ⊥
 
-behind : (method : Member) (methods : List Member) → AllPairs (λ first later. AreSame first later → ⊥) (method ∷ methods) → AllPairs (λ first later. AreSame first later → ⊥) methods
-behind method methods distinct i j d less within = distinct (suc i) (suc j) d (omega arith) (omega arith)
+none_later : (method : Member) (methods : List Member) → AreDistinct (method ∷ methods) → NoneSame method methods
+none_later method methods distinct k other at same = distinct 0 (suc k) method other (omega arith) refl at same.0 same.1
 
-pub get_is : (methods : List Member) (i : ℕ) (method : Member) → slice_get methods i ≡ Some method → (i < length methods) × (get_or methods i method ≡ method)
-get_is [] i method e = cc
-get_is (m ∷ methods) zero method e = (omega arith, some_is m method e)
-get_is (m ∷ methods) (suc i) method e = let r = get_is methods i method e in (omega (arith, r.0), r.1)
+behind : (method : Member) (methods : List Member) → AreDistinct (method ∷ methods) → AreDistinct methods
+behind method methods distinct j k one other less = distinct (suc j) (suc k) one other (omega (arith, less))
 
 module _ (mixin : ClassFile) (origin : Member) (there : Contains mixin.methods origin) (single : (other : Member) → Contains mixin.methods other → other ≡ origin) where
   stays : (method : Member) → (AreSame method origin → ⊥) → IsMember mixin method method
   stays method other = unchanged (λ o c same. other (subst (AreSame method) (single o c) same))
 
-  all_stay : (old : Member) (methods rest : List Member) → AreSame old origin → ((i : ℕ) (d : Member) → i < length rest → AreSame old (get_or rest i d) → ⊥) → AllZip (IsMember mixin) rest rest
-  all_stay old methods [] same apart = tt
-  all_stay old methods (method ∷ rest) same apart =
-      (stays method (λ h. apart 0 method (omega arith) (same.0 ∙ sym h.0, same.1 ∙ sym h.1)), all_stay old methods rest same (λ i d within. apart (suc i) d (omega arith)))
+  all_stay : (old : Member) (methods : List Member) → AreSame old origin → NoneSame old methods → AllZip (IsMember mixin) methods methods
+  all_stay old [] same apart = tt
+  all_stay old (method ∷ methods) same apart =
+      (stays method (λ h. apart 0 method refl (same.0 ∙ sym h.0, same.1 ∙ sym h.1)), all_stay old methods same (λ k. apart (suc k)))
 
-  table : (methods : List Member) (place : ℕ) (old : Member) → slice_get methods place ≡ Some old → AreSame old origin → AllPairs (λ first later. AreSame first later → ⊥) methods → AllZip (IsMember mixin) methods (set methods place (overwritten old origin))
+  table : (methods : List Member) (place : ℕ) (old : Member) → slice_get methods place ≡ Some old → AreSame old origin → AreDistinct methods → AllZip (IsMember mixin) methods (set methods place (overwritten old origin))
   table [] place old at same distinct = cc
   table (method ∷ methods) zero old at same distinct =
       let is : method ≡ old = some_is method old at in (
         subst (λ (m : Member). IsMember mixin m (overwritten old origin)) (sym is) (replaced there same),
-        all_stay method methods methods (subst (λ (m : Member). AreSame m origin) (sym is) same) (others method methods distinct),
+        all_stay method methods (subst (λ (m : Member). AreSame m origin) (sym is) same) (none_later method methods distinct),
       )
   table (method ∷ methods) (suc place) old at same distinct =
-      let found = get_is methods place old at in
-      (stays method (λ h. others method methods distinct place old found.0 (subst (AreSame method) (sym found.1) (h.0 ∙ sym same.0, h.1 ∙ sym same.1))), table methods place old at same (behind method methods distinct))
+      (stays method (λ h. none_later method methods distinct place old at (h.0 ∙ sym same.0, h.1 ∙ sym same.1)), table methods place old at same (behind method methods distinct))
 
 -- the only one of a list of one
-one_only : (methods : List Member) (first other : Member) → length methods ≡ 1 → Contains methods first → Contains methods other → other ≡ first
+pub one_only : (methods : List Member) (first other : Member) → length methods ≡ 1 → Contains methods first → Contains methods other → other ≡ first
 one_only [] first other one c d = cc
 one_only (m ∷ n ∷ methods) first other one c d = absurd (omega (arith, one))
 one_only (m ∷ []) first other one (i, within, is) (j, inside, same) =
@@ -164,33 +174,94 @@ one_only (m ∷ []) first other one (i, within, is) (j, inside, same) =
     let zero_j : j ≡ 0 = omega arith in
     sym same ∙ ap (λ (k : ℕ). get_or (m ∷ []) k other) zero_j ∙ sym (ap (λ (k : ℕ). get_or (m ∷ []) k first) zero_i) ∙ is
 
-all_at : {X : Type 0} (P : X → Type 0) (xs : List X) (i : ℕ) (x : X) → slice_get xs i ≡ Some x → AllByRecursion P xs → P x
-all_at P [] i x e h = cc
-all_at P (y ∷ xs) zero x e h = subst P (some_is y x e) h.0
-all_at P (y ∷ xs) (suc i) x e h = all_at P xs i x e h.1
+-- ---- Plain code is written as it is
 
-module _ (game mixin woven : ClassFile) (bytes : List ℕ) (is : IsOverwritten game mixin woven) (spelled : IsClassBytes woven bytes) where
-  pub is_written : IsWritten game mixin ((written_path, bytes) ∷ [])
-  is_written =
-      let by = is.made in
-      let old_is : is.target.old ≡ by.old = some_is is.target.old by.old (sym is.target.at ∙ by.at) in
-      let same : AreSame by.old is.origin = subst (λ (m : Member). AreSame m is.origin) old_is is.target.same in
-      let single = λ (o : Member) (c : Contains mixin.methods o). one_only mixin.methods is.origin o is.is_mixin.plain.of_role is.of_mixin c in
-      let member = overwritten by.old is.origin in
-      let plain = method_read by.old is.origin same (all_at (IsPlainMethod Game) game.methods is.place by.old by.at is.is_game.plain.methods) (get_all (IsPlainMethod Mixin) mixin.methods is.origin is.is_mixin.plain.methods is.of_mixin) in
+widened_is : {role : Role} {own : List ℕ} {insn : Insn} (long : Bool) → IsSimple role own insn → widened long insn ≡ insn
+widened_is long (plain is) = refl
+widened_is long (push is fits) = refl
+widened_is long (reference class is) = refl
+
+code_same : (role : Role) (own : List ℕ) (pool : List PoolEntry) (code other : List Insn) → AllByRecursion (IsSimple role own) code → AreWidened pool code other → other ≡ code
+code_same role own pool [] [] is h = refl
+code_same role own pool [] (j ∷ other) is h = absurd h
+code_same role own pool (insn ∷ code) [] is h = absurd h
+code_same role own pool (insn ∷ code) (j ∷ other) is ((long, widens, same), others) =
+    let first : j ≡ insn = same ∙ widened_is long is.0 in
+    let rest : other ≡ code = code_same role own pool code other is.1 others in
+    cc
+
+body_same : (role : Role) (own : List ℕ) (pool : List PoolEntry) (body : Body) (other : Option Body) → AllByRecursion (IsSimple role own) body.insns → IsSameBodyIn pool (Some body) other → other ≡ Some body
+body_same role own pool body None is h = absurd h
+body_same role own pool body (Some other) is h =
+    let same : other.insns ≡ body.insns = code_same role own pool body.insns other.insns is h.widened in
+    ap (λ (b : Body). Some b) (h.others ∙ ap (λ (code : List Insn). record body { insns = code }) same)
+
+member_same : (pool : List PoolEntry) (method other : Member) → IsGameMethod method → IsSameMember pool method other → other ≡ method
+member_same pool method other is h =
+    let b = some_body method.body (IsPlainBody Game (class_name Game) method.descriptor) is.code in
+    let same : other.body ≡ Some b.0 = body_same Game (class_name Game) pool b.0 other.body (all_simple Game (class_name Game) b.0.insns b.2.plain) (subst (λ (o : Option Body). IsSameBodyIn pool o other.body) b.1 h.body) in
+    h.others ∙ ap (λ (o : Option Body). record method { body = o }) (same ∙ sym b.1)
+
+methods_same : (pool : List PoolEntry) (methods others : List Member) → AllByRecursion IsGameMethod methods → AllZip (IsSameMember pool) methods others → others ≡ methods
+methods_same pool [] [] is h = refl
+methods_same pool [] (other ∷ others) is h = absurd h
+methods_same pool (method ∷ methods) [] is h = absurd h
+methods_same pool (method ∷ methods) (other ∷ others) is h =
+    let first : other ≡ method = member_same pool method other is.0 h.0 in
+    let rest : others ≡ methods = methods_same pool methods others is.1 h.1 in
+    cc
+
+-- ---- The class
+
+-- the written class, which is the woven one but for its pool
+written_is : (woven written : ClassFile) → AllByRecursion IsGameMethod woven.methods → IsSameClass woven written → written ≡ record woven { pool = written.pool }
+written_is woven written is h = h.others ∙ ap (λ (ms : List Member). record woven { pool = written.pool; methods = ms }) (methods_same written.pool woven.methods written.methods is h.methods)
+
+written_others : (game written : ClassFile) (version : ClassVersion) (methods : List Member) → written ≡ record game { version = version; methods = methods; pool = written.pool } → written ≡ record game { version = written.version; methods = written.methods; pool = written.pool }
+written_others game written version methods e =
+    let v : written.version ≡ version = ap (λ (c : ClassFile). c.version) e in
+    let m : written.methods ≡ methods = ap (λ (c : ClassFile). c.methods) e in
+    subst (λ (ms : List Member). written ≡ record game { version = written.version; methods = ms; pool = written.pool }) (sym m)
+    (subst (λ (w : ClassVersion). written ≡ record game { version = w; methods = methods; pool = written.pool }) (sym v) e)
+
+module _ (game mixin woven : ClassFile) (is : IsOverwritten game mixin woven) where
+  target_same : AreSame is.made.old is.origin
+  target_same =
+      let old_is : is.target.old ≡ is.made.old = some_is is.target.old is.made.old (sym is.target.at ∙ is.made.at) in
+      subst (λ (m : Member). AreSame m is.origin) old_is is.target.same
+
+  game_methods : AllByRecursion IsGameMethod game.methods
+  game_methods = all_weaker (IsPlainMethod Game game.name) IsGameMethod game.methods (game_method game.name) (plain_methods Game is.bytes game is.is_game)
+
+  made_methods : AllByRecursion IsGameMethod (set game.methods is.place (overwritten is.made.old is.origin))
+  made_methods =
+      all_set IsGameMethod game.methods is.place (overwritten is.made.old is.origin) game_methods
+      (method_read is.made.old is.origin target_same (all_at IsGameMethod game.methods is.place is.made.old is.made.at game_methods) (origin_plain game mixin woven is))
+
+  only_origin : (other : Member) → Contains mixin.methods other → other ≡ is.origin
+  only_origin other there = one_only mixin.methods is.origin other is.is_mixin.1.1.of_role is.of_mixin there
+
+  made_table : AllZip (IsMember mixin) game.methods (set game.methods is.place (overwritten is.made.old is.origin))
+  made_table = table mixin is.origin is.of_mixin only_origin game.methods is.place is.made.old is.made.at target_same (game_formed game Game is.bytes is.is_game).distinct_methods
+
+  pub is_written : (bytes : List ℕ) → Writes woven bytes → IsWritten game mixin ((written_path, bytes) ∷ [])
+  is_written bytes writes =
+      let written = writes.written in
+      let methods = set game.methods is.place (overwritten is.made.old is.origin) in
+      let version = written_version game.version mixin.version in
+      let woven_methods : woven.methods ≡ methods = ap (λ (c : ClassFile). c.methods) is.made.made in
+      let as_woven = written_is woven written (subst (AllByRecursion IsGameMethod) (sym woven_methods) made_methods) writes.same in
+      let as_game : written ≡ record game { version = version; methods = methods; pool = written.pool } = as_woven ∙ ap (λ (c : ClassFile). record c { pool = written.pool }) is.made.made in
+      let has_methods : written.methods ≡ methods = ap (λ (c : ClassFile). c.methods) as_game in
       record {
         bytes = bytes;
         one_file = refl;
-        class = record woven { pool = woven.pool ++ spelled.more };
-        spelled = spelled.spelled;
-        name = ap (λ (c : ClassFile). c.name) by.made;
-        super_class = ap (λ (c : ClassFile). c.superclass) by.made;
-        flags = ap (λ (c : ClassFile). c.flags) by.made;
-        version = ap (λ (c : ClassFile). c.version) by.made;
-        table = subst (λ (c : ClassFile). AllZip (IsMember mixin) game.methods c.methods) (sym by.made)
-            (table mixin is.origin is.of_mixin single game.methods is.place by.old by.at same is.is_game.plain.distinct);
-        verifies = subst (λ (c : ClassFile). AllByRecursion (IsPlainMethod Game) c.methods) (sym by.made)
-            (all_set (IsPlainMethod Game) game.methods is.place member is.is_game.plain.methods plain);
-        more = spelled.more;
-        same_front = ap (λ (c : ClassFile). c.pool ++ spelled.more) by.made;
+        class = written;
+        spelled = writes.spelled;
+        version = ap (λ (c : ClassFile). c.version) as_game;
+        table = subst (AllZip (IsMember mixin) game.methods) (sym has_methods) made_table;
+        verifies = subst (AllByRecursion IsGameMethod) (sym has_methods) made_methods;
+        more = writes.same.pool.0;
+        same_front = writes.same.pool.1 ∙ ap (λ (c : ClassFile). c.pool ++ writes.same.pool.0) is.made.made;
+        others = written_others game written version methods as_game;
       }

@@ -7,21 +7,15 @@ use Rattle.wv_base.specs.declared.insn.Insn.{Insn}
 use Rattle.wv_base.specs.declared.insn.Insn.TheVariants as insns
 use Rattle.wv_base.specs.Opcodes.{iconst_0, iconst_5, bipush, pop, iadd, imul, return, getstatic, invokevirtual, invokestatic}
 use Rattle.wv_model.specs.PlainTyping.{Stack, print_stream}
-use Rattle.wv_weave.specs.declared.fault.PlainFault.{PlainFault}
-use Rattle.wv_weave.specs.declared.fault.PlainFault.TheVariants as faults
+use Rattle.wv_weave.specs.declared.fault.TypingFault.{TypingFault}
+use Rattle.wv_weave.specs.declared.fault.TypingFault.TheVariants as faults
 use Rattle.wv_weave.specs.declared.typing.Kind.{Kind}
 use Rattle.wv_weave.specs.declared.typing.Kind.TheVariants as kinds
 
--- what a check tells of a fact: that it holds, or that it doesn't; want of memory tells nothing
-abbrev pub Tells : {T : Type 0} → Result T PlainFault → Type 0 → Type 0
-Tells (Ok value) Fact = Fact
-Tells (Err faults.NotPlain) Fact = Fact → ⊥
-Tells (Err faults.Memory) Fact = Unit {0}
-
 -- the state is the next one, or there is no next one; want of memory tells nothing
-abbrev pub IsNext : {T : Type 0} → Result T PlainFault → Option Stack → Stack → Type 0
+abbrev pub IsNext : {T : Type 0} → Result T TypingFault → Option Stack → Stack → Type 0
 IsNext (Ok value) next state = next ≡ Some state
-IsNext (Err faults.NotPlain) next state = next ≡ None
+IsNext (Err faults.Untyped) next state = next ≡ None
 IsNext (Err faults.Memory) next state = Unit {0}
 
 -- the type of a kind
@@ -92,7 +86,7 @@ checks max_stack stack [] = true
 checks max_stack stack (insn ∷ insns) = goes_on max_stack (λ after. checks max_stack after insns) (next insn stack)
 
 -- the check's answer, unless memory ran out
-abbrev pub Answers : {T : Type 0} → Result T PlainFault → Bool → Type 0
+abbrev pub Answers : {T : Type 0} → Result T TypingFault → Bool → Type 0
 Answers (Ok value) holds = holds ≡ true
-Answers (Err faults.NotPlain) holds = holds ≡ false
+Answers (Err faults.Untyped) holds = holds ≡ false
 Answers (Err faults.Memory) holds = Unit {0}

@@ -1,11 +1,12 @@
+pub mod ThinClass
+pub mod FirstForm
+pub mod WovenFiles
 pub mod ClassRead
-pub mod Overwrite
 pub mod Checking
 pub mod Outside
+pub mod Overwrite
 pub mod Woven
 pub mod Role
-pub mod Reading
-pub mod ClassConstants
-pub mod PlainKinds
-pub mod Writing
+pub mod Marks
+pub mod Plain
 pub mod Merging

@@ -1,31 +1,22 @@
 -- What a mixin makes of the game's class, and when it can't be applied (Mixin 0.8.5, @Overwrite).
-use Rattle.std.specs.Prelude.{◌≡◌, ℕ, List, Contains, Result, Ok, Err}
-use Rattle.std.specs.List.{AllByRecursion}
+use Rattle.std.specs.Prelude.{◌≡◌, ℕ, List, Contains, Option, Some, None, Result, Ok, Err}
 use Rattle.wv_base.specs.declared.broken.Broken.{Broken}
 use Rattle.wv_base.specs.declared.class_file.ClassFile.{ClassFile}
 use Rattle.wv_base.specs.declared.class_file.Member.{Member}
-use Rattle.wv_base.specs.declared.fault.LimitFault.{LimitFault}
-use Rattle.wv_base.specs.declared.fault.LimitFault.TheVariants as limits
-use Rattle.wv_model.specs.FirstForm.{class_path, class_bad, overwrite_missing}
-use Rattle.wv_model.specs.MemberTable.{IsWritten}
-use Rattle.wv_model.specs.PlainClass.{AreSame, IsPlainClass}
-use Rattle.wv_model.specs.PlainCode.{Game, Mixin}
-use Rattle.wv_model.specs.PlainPool.{IsPlainUnit}
+use Rattle.wv_model.specs.PlainCode.{Role, Game, Mixin, class_name}
+use Rattle.wv_model.specs.PlainMethod.{AreSame}
 use Rattle.wv_weave.specs.declared.class_read.ClassRead.{ClassRead}
 use Rattle.wv_weave.specs.declared.class_read.ClassRead.TheVariants as reads
 use Rattle.wv_weave.specs.declared.fault.WeaveFault.{WeaveFault}
 use Rattle.wv_weave.specs.declared.fault.WeaveFault.TheVariants as faults
 use Rattle.wv_weave.specs.declared.weaver.Woven.{Woven}
-use Rattle.wv_weave.specs.Writing.{IsWritable, Exceeds}
+use Rattle.wv_weave.specs.FirstForm.{bad_layout, bad_reference, other_version, other_name, overwrite_missing, IsOutsideVersions}
+use Rattle.wv_weave.specs.ThinClass.{IsThinClass}
+use Rattle.wv_weave.specs.WovenFiles.{IsWritten}
 
--- a class that can be written and passes no limit
-pub record Fits (class : ClassFile) : Type 0 where
-  pub writable : IsWritable class
-  pub within : (fault : LimitFault) → Exceeds class fault → fault ≡ limits.Memory
-
--- a method whose name and descriptor are ASCII
-abbrev pub HasPlainNames : Member → Type 0
-HasPlainNames method = AllByRecursion IsPlainUnit method.name × AllByRecursion IsPlainUnit method.descriptor
+-- the versions of both classes are those of Java 6 to 8
+abbrev pub HaveVersions : ClassFile → ClassFile → Type 0
+HaveVersions game mixin = (IsOutsideVersions game.version.major → ⊥) × (IsOutsideVersions mixin.version.major → ⊥)
 
 -- the game's class lacks the method of the mixin that the refusal names
 pub record IsMissing (game mixin : ClassFile) (broken : Broken) : Type 0 where
@@ -46,16 +37,34 @@ Merges game mixin (Ok woven) = IsWritten game mixin woven.files × NoneMissing g
 Merges game mixin (Err (faults.Broken broken)) = IsMissing game mixin broken
 Merges game mixin (Err faults.Memory) = Unit {0}
 
--- this is the refusal, unless memory runs out
-abbrev pub IsRefusal : Broken → Result Woven WeaveFault → Type 0
-IsRefusal broken (Ok woven) = ⊥
-IsRefusal broken (Err (faults.Broken other)) = other ≡ broken
-IsRefusal broken (Err faults.Memory) = Unit {0}
+-- the refusal of the two classes by themselves: for a version, and then for a name, the game's before the mixin's
+pub data ClassRefusal (game mixin : ClassFile) : Option Broken → Type 0 where
+  game_version : IsOutsideVersions game.version.major → ClassRefusal game mixin (Some (other_version Game game))
+  mixin_version : (IsOutsideVersions game.version.major → ⊥) → IsOutsideVersions mixin.version.major → ClassRefusal game mixin (Some (other_version Mixin mixin))
+  game_name : HaveVersions game mixin → (game.name ≡ class_name Game → ⊥) → ClassRefusal game mixin (Some (other_name Game game))
+  mixin_name : HaveVersions game mixin → game.name ≡ class_name Game → (mixin.name ≡ class_name Mixin → ⊥) → ClassRefusal game mixin (Some (other_name Mixin mixin))
+  none : HaveVersions game mixin → game.name ≡ class_name Game → mixin.name ≡ class_name Mixin → ClassRefusal game mixin None
 
--- what is answered where each class file was read as a class or lacks the magic number: that is refused first
-abbrev pub Applies : ClassRead → ClassRead → Result Woven WeaveFault → Type 0
-Applies (reads.NoMagic at) mixin result = IsRefusal (class_bad (class_path Game) at) result
-Applies (reads.Class game) (reads.NoMagic at) result = IsRefusal (class_bad (class_path Mixin) at) result
-Applies (reads.Class game) (reads.Class mixin) result =
-    (content other : List ℕ) → IsPlainClass Game content game → IsPlainClass Mixin other mixin → Merges game mixin result
-Applies game mixin result = Unit {0}
+-- the refusal, if there is one, and else what comes of the merging; want of memory tells nothing
+abbrev pub Answers : ClassFile → ClassFile → Option Broken → Result Woven WeaveFault → Type 0
+Answers game mixin None result = Merges game mixin result
+Answers game mixin (Some broken) (Ok woven) = ⊥
+Answers game mixin (Some broken) (Err (faults.Broken other)) = other ≡ broken
+Answers game mixin (Some broken) (Err faults.Memory) = Unit {0}
+
+abbrev pub Applies : ClassFile → ClassFile → Result Woven WeaveFault → Type 0
+Applies game mixin result = (refusal : Option Broken) × ClassRefusal game mixin refusal × Answers game mixin refusal result
+
+-- what is read is of the form: a class of the role, or bytes that are no class file
+abbrev pub HasBytes : Role → ClassRead → Type 0
+HasBytes role (reads.Class class) = (bytes : List ℕ) × IsThinClass role bytes class
+HasBytes role (reads.Layout at) = Unit {0}
+HasBytes role (reads.Reference at) = Unit {0}
+HasBytes role reads.OutOfForm = ⊥
+
+-- what comes of the mixin as it is read
+abbrev pub AppliesRead : ClassFile → ClassRead → Result Woven WeaveFault → Type 0
+AppliesRead game (reads.Class mixin) result = Applies game mixin result
+AppliesRead game (reads.Layout at) result = Answers game game (Some (bad_layout Mixin at)) result
+AppliesRead game (reads.Reference at) result = Answers game game (Some (bad_reference Mixin at)) result
+AppliesRead game reads.OutOfForm result = Unit {0}

@@ -4,7 +4,7 @@ use Rattle.std.specs.List.{IsAmong, list_any}
 use Rattle.std.specs.Cmp.Lexicographic.{slice_cmp}
 use Rattle.std.specs.Ordering.{nat_cmp, is_lt}
 use Rattle.wv_base.specs.Folder.{File, IsPathBefore, content_of}
-use Rattle.wv_model.specs.FirstForm.{class_path, counts, form_paths, json_files}
+use Rattle.wv_weave.specs.FirstForm.{class_path, counts, form_paths, json_files}
 use Rattle.wv_model.specs.PlainCode.{Game, Mixin}
 use Rattle.wv_weave.specs.declared.class_read.ClassRead.{ClassRead}
 use Rattle.wv_weave.specs.declared.class_read.ClassRead.TheVariants as reads

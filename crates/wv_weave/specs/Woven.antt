@@ -1,6 +1,6 @@
 -- What a folder of the form is woven to (our own).
 use Rattle.std.specs.Prelude.{◌≡◌, ℕ, List, [], ◌∷◌}
-use Rattle.wv_model.specs.MemberTable.{written_path}
+use Rattle.wv_weave.specs.WovenFiles.{written_path}
 use Rattle.wv_weave.specs.declared.weaver.Woven.{Woven}
 
 -- one class is written, which one mixin edits, and no hook stands in it

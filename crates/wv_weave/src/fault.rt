@@ -1,5 +1,5 @@
 //! Why a folder isn't woven.
-ghost use Rattle.std.specs.Prelude.{◌≡◌};
+ghost use Rattle.std.specs.Prelude.{◌≡◌, MatchBool};
 
 use std::alloc::{AllocError, AllocFailed};
 use thiserror::Error;
@@ -35,39 +35,50 @@ impl From<AllocError> for WeaveFault {
     }
 }
 
-/// Why bytes aren't read as a plain class.
+/// Why code isn't found to have a typing.
 #[derive(Debug, Drop)]
-pub(crate) enum PlainFault {
-    NotPlain,
+pub(crate) enum TypingFault {
+    Untyped,
     Memory,
 }
 
-impl From<Memory> for PlainFault {
-    ghost use Rattle.wv_weave.specs.declared.fault.PlainFault.TheVariants as faults;
+impl From<Memory> for TypingFault {
+    ghost use Rattle.wv_weave.specs.declared.fault.TypingFault.TheVariants as faults;
 
     ghost from_gives = { λ _ e. e ≡ faults.Memory };
 
-    fn from(_error: Memory) -> PlainFault {
-        PlainFault::Memory
+    fn from(_error: Memory) -> TypingFault {
+        TypingFault::Memory
     }
 }
 
-impl From<AllocError> for PlainFault {
-    ghost use Rattle.wv_weave.specs.declared.fault.PlainFault.TheVariants as faults;
+impl From<AllocError> for TypingFault {
+    ghost use Rattle.wv_weave.specs.declared.fault.TypingFault.TheVariants as faults;
 
     ghost from_gives = { λ _ e. e ≡ faults.Memory };
 
-    fn from(_error: AllocError) -> PlainFault {
-        PlainFault::Memory
+    fn from(_error: AllocError) -> TypingFault {
+        TypingFault::Memory
     }
 }
 
-impl<T: Drop> From<AllocFailed<T>> for PlainFault {
-    ghost use Rattle.wv_weave.specs.declared.fault.PlainFault.TheVariants as faults;
+impl<T: Drop> From<AllocFailed<T>> for TypingFault {
+    ghost use Rattle.wv_weave.specs.declared.fault.TypingFault.TheVariants as faults;
 
     ghost from_gives = { λ _ e. e ≡ faults.Memory };
 
-    fn from(_error: AllocFailed<T>) -> PlainFault {
-        PlainFault::Memory
+    fn from(_error: AllocFailed<T>) -> TypingFault {
+        TypingFault::Memory
+    }
+}
+
+/// What code has to meet for a typing.
+pub(crate) fn typed(holds: bool) -> Result<(), TypingFault>
+    ensures { MatchBool holds (result ≡ Ok tt) (result ≡ Err TypingFault.Untyped) }
+{
+    if holds {
+        Ok(())
+    } else {
+        Err(TypingFault::Untyped)
     }
 }

@@ -1,6 +1,6 @@
 //! Files that are outside the form.
 ghost use Rattle.std.specs.Prelude.{◌≡◌, ◌&&◌, not, MatchBool, Some, option_copied};
-ghost use Rattle.wv_model.specs.FirstForm.{counts};
+ghost use Rattle.wv_weave.specs.FirstForm.{counts};
 ghost use Rattle.wv_base.specs.Folder.{content_of};
 ghost use Rattle.wv_weave.specs.Outside.{is_form_path, IsExtra, IsUnfit, IsOut, IsFirstPath, lesser};
 
@@ -13,7 +13,7 @@ use crate::path::is_read;
 use wv_base::Folder;
 
 /// Whether a path counts for the form, being read or a jar's.
-#[tactic(auto, unfolding(wv_model::specs::FirstForm::counts))]
+#[tactic(auto, unfolding(crate::specs::FirstForm::counts))]
 fn counts(path: &str) -> bool
     ensures { result ≡ counts path.now }
 {

@@ -1,13 +1,14 @@
 //! The overwrite of one method of the target by the mixin's.
 ghost use Rattle.std.specs.Prelude.{◌≡◌, ◌<◌, ◌↔◌, map, option_map, option_copied, length, IsTrue, All, IfOk, IfNone, IfSome, OnOk, OnErr};
 ghost use Rattle.wv_model.specs.MemberTable.{read_in_target, body_in_target, overwritten};
-ghost use Rattle.wv_model.specs.PlainClass.{AreSame};
+ghost use Rattle.wv_model.specs.PlainMethod.{AreSame};
 ghost use Rattle.wv_model.specs.PlainCode.{Game, class_name};
 ghost use Rattle.wv_weave.specs.Overwrite.{IsTarget, IsOverwrite};
+ghost use Rattle.wv_weave.specs.WovenFiles.{written_version};
 
 use crate::form::{GAME_CLASS, MIXIN_CLASS};
 use std::alloc::Global;
-use wv_base::{Body, ClassFile, Insn, Items, Member, Memory, Name};
+use wv_base::{Body, ClassFile, ClassVersion, Insn, Items, Member, Memory, Name};
 
 fn are_same(first: &Member, second: &Member) -> bool
     ensures { IsTrue result ↔ AreSame first.now second.now }
@@ -117,4 +118,18 @@ pub(crate) fn overwrite(
     let member = merged(alloc, &target.methods.as_slice()[place], method)?;
     target.methods.set(place, member);
     Ok(())
+}
+
+/// The version that is written: the greater major version, and the minor one of 0 where it is raised.
+pub(crate) fn written_version(game: ClassVersion, mixin: ClassVersion) -> ClassVersion
+    ensures { result ≡ written_version game mixin }
+{
+    if mixin.major <= game.major {
+        game
+    } else {
+        ClassVersion {
+            major: mixin.major,
+            minor: 0,
+        }
+    }
 }

@@ -1,9 +1,9 @@
 //! Type checking of plain code (JVM Specification 4.10.1).
-ghost use Rattle.std.specs.Prelude.{◌≡◌, [], ◌∷◌, length, MatchBool, OnOk, Some, None};
+ghost use Rattle.std.specs.Prelude.{◌≡◌, ◌↔◌, [], ◌∷◌, length, IsTrue, MatchBool, IfOk, OnOk, Some, None};
+ghost use Rattle.wv_model.specs.PlainTyping.{HasTyping};
 ghost use Rattle.wv_weave.specs.Checking.{Answers, checks, type_of, taken, added, dropped, printed, next_plain, next_push, next_reference, next, IsNext};
 
-use crate::fault::PlainFault;
-use crate::number::plain;
+use crate::fault::{TypingFault, typed};
 use crate::opcode::{
     BIPUSH, GETSTATIC, IADD, ICONST_0, ICONST_5, IMUL, INVOKESTATIC, INVOKEVIRTUAL, POP, RETURN,
 };
@@ -73,73 +73,84 @@ impl Stack {
         self.kinds.pop().is_some()
     }
 
-    fn add(&mut self) -> Result<(), PlainFault>
+    fn add(&mut self) -> Result<(), TypingFault>
         ensures { IsNext result (added self.old) self.new }
     {
-        plain(self.take(Kind::Int))?;
-        plain(self.take(Kind::Int))?;
+        typed(self.take(Kind::Int))?;
+        typed(self.take(Kind::Int))?;
         self.push(Kind::Int)?;
         Ok(())
     }
 
-    fn print(&mut self) -> Result<(), PlainFault>
+    fn print(&mut self) -> Result<(), TypingFault>
         ensures { IsNext result (printed self.old) self.new }
     {
-        plain(self.take(Kind::Int))?;
-        plain(self.take(Kind::Stream))
+        typed(self.take(Kind::Int))?;
+        typed(self.take(Kind::Stream))
     }
 
-    fn apply_plain(&mut self, op: u8) -> Result<(), PlainFault>
+    fn apply_plain(&mut self, op: u8) -> Result<(), TypingFault>
         ensures { IsNext result (next_plain op self.old) self.new }
     {
         match op {
             ICONST_0..=ICONST_5 => Ok(self.push(Kind::Int)?),
             IADD | IMUL => self.add(),
-            POP => plain(self.drop_top()),
+            POP => typed(self.drop_top()),
             RETURN => Ok(()),
-            _ => Err(PlainFault::NotPlain),
+            _ => Err(TypingFault::Untyped),
         }
     }
 
-    fn apply_push(&mut self, op: u8) -> Result<(), PlainFault>
+    fn apply_push(&mut self, op: u8) -> Result<(), TypingFault>
         ensures { IsNext result (next_push op self.old) self.new }
     {
-        plain(op == BIPUSH)?;
+        typed(op == BIPUSH)?;
         Ok(self.push(Kind::Int)?)
     }
 
-    fn apply_reference(&mut self, op: u8) -> Result<(), PlainFault>
+    fn apply_reference(&mut self, op: u8) -> Result<(), TypingFault>
         ensures { IsNext result (next_reference op self.old) self.new }
     {
         match op {
             GETSTATIC => Ok(self.push(Kind::Stream)?),
             INVOKEVIRTUAL => self.print(),
             INVOKESTATIC => Ok(()),
-            _ => Err(PlainFault::NotPlain),
+            _ => Err(TypingFault::Untyped),
         }
     }
 
     /// The row of an instruction. One that plain code doesn't have has none.
-    fn apply(&mut self, insn: &Insn) -> Result<(), PlainFault>
+    fn apply(&mut self, insn: &Insn) -> Result<(), TypingFault>
         ensures { IsNext result (next insn.now self.old) self.new }
     {
         match insn {
             Insn::Plain { op } => self.apply_plain(*op),
             Insn::Push { op, .. } => self.apply_push(*op),
             Insn::Reference { op, .. } => self.apply_reference(*op),
-            _ => Err(PlainFault::NotPlain),
+            _ => Err(TypingFault::Untyped),
         }
     }
 }
 
 /// That plain code has a typing within the declared stack.
-pub(crate) fn check_typing(alloc: Global, max_stack: u16, insns: &[Insn]) -> Result<(), PlainFault>
+fn check_typing(alloc: Global, max_stack: u16, insns: &[Insn]) -> Result<(), TypingFault>
     ensures { Answers result (checks max_stack [] insns.now) }
 {
     let mut stack = Stack::new(alloc);
     for insn in insns {
         stack.apply(insn)?;
-        plain(stack.len() <= max_stack as usize)?;
+        typed(stack.len() <= max_stack as usize)?;
     }
     Ok(())
+}
+
+/// Whether plain code has a typing within the declared stack.
+pub(crate) fn has_typing(alloc: Global, max_stack: u16, insns: &[Insn]) -> Result<bool, Memory>
+    ensures { IfOk result (λ typed. IsTrue typed ↔ HasTyping max_stack insns.now) }
+{
+    match check_typing(alloc, max_stack, insns) {
+        Ok(()) => Ok(true),
+        Err(TypingFault::Untyped) => Ok(false),
+        Err(TypingFault::Memory) => Err(Memory),
+    }
 }

@@ -1,5 +1,5 @@
 use Rattle.std.proofs.Common.{take, All}
-use Rattle.wv_model.specs.PlainClass.{AreSame}
+use Rattle.wv_model.specs.PlainMethod.{AreSame}
 use Rattle.wv_weave.proofs.overwrite.target_of.Given as goal
 
 abbrev pub invariant-loop-place : goal.invariant-loop-place

@@ -1,16 +1,11 @@
 use Rattle.std.proofs.Common.{◌≡◌, ◌∙◌, Err, arith, rules}
-use Rattle.wv_weave.proofs.TypingChecks.{checks_end, stop_tells, room_tells}
+use Rattle.wv_weave.proofs.TypingChecks.{checks_end, stop_tells}
 use Rattle.wv_weave.proofs.typing.check_typing.Goals as goal
 
 pub returns-in_err-apply : goal.returns-in_err-apply
 returns-in_err-apply c =
     let e : c.from_residual.result ≡ Err c.in_err-apply.field-0.0 = search rules in
     rw e (stop_tells c.in_err-apply.field-0.0 c.args.max_stack c.loop-insn.stack c.apply.new.self c.args.insns.now c.loop-insn.insn-index c.insn-item.result (omega arith) c.insn-item.is c.loop-insn.invariant (c.in_err-apply.ensures {u = tt}))
-
-pub returns-in_err-plain : goal.returns-in_err-plain
-returns-in_err-plain c =
-    let e : c.from_residual-in_err-plain.result ≡ Err c.in_err-plain.field-0.0 = search rules in
-    rw e (room_tells c.in_err-plain.field-0.0 c.len.result c.args.max_stack c.loop-insn.stack c.apply.new.self c.args.insns.now c.loop-insn.insn-index c.insn-item.result (omega arith) c.insn-item.is c.loop-insn.invariant c.in_ok-apply.ensures (search rules) c.in_err-plain.ensures)
 
 pub returns : goal.returns
 returns c =
