@@ -11,9 +11,42 @@ use Rattle.std.proofs.lemmas.Map.Text.{is_eq-slice_cmp}
 use Rattle.std.proofs.lemmas.Slice.Eq.{bytes_eq-Decides}
 use Rattle.wv_base.specs.Folder.{File, IsPathBefore}
 use Rattle.wv_base.specs.declared.broken.Broken.{Broken}
-use Rattle.wv_base.specs.declared.rule.Rule.TheVariants.{OutOfForm, ClassBad, OverwriteMissing}
-use Rattle.wv_model.proofs.PlaceOrder.{path_of, Before, placed, contains_head, equal_paths, insert_place, inserted_ordered, AreOne, inserted_has, inserted_is}
-use Rattle.wv_model.specs.FirstForm.{ArePlaces, BreaksForm, BreaksLayout, BreaksOverwrite, FirstBroken, Holds, IsFirstPlace, IsOutside, NoneBroken, Unlimited, out_of_form, form_broken, layout_broken, overwrite_broken}
+use Rattle.wv_base.specs.declared.rule.Rule.{Rule}
+use Rattle.wv_base.specs.declared.rule.Rule.TheVariants.{OutOfForm, ClassBad, VersionOutside, NamePath, OverwriteMissing}
+use Rattle.wv_weave.proofs.PlaceOrder.{path_of, Before, placed, contains_head, equal_paths, insert_place, inserted_ordered, AreOne, inserted_has, inserted_is}
+use Rattle.wv_weave.specs.FirstForm.{ArePlaces, Breaks, BreaksForm, BreaksOverwrite, FirstBroken, FirstOf, HasOtherName, HasOtherVersion, Holds, InClassFiles, IsBadClass, IsFirstPlace, IsOutside, NoneBroken, Unlimited, out_of_form, here, behind}
+
+-- ---- The rules behind rule 9, which no limit changes
+
+abbrev later_rules : List Rule
+later_rules = ClassBad ∷ VersionOutside ∷ NamePath ∷ OverwriteMissing ∷ []
+
+later_moves : (P Q : List ℕ → Type 0) (folder : List File) (broken : Broken) → FirstOf (Breaks P folder) later_rules broken → FirstOf (Breaks Q folder) later_rules broken
+later_moves P Q folder broken (here f) = here f
+later_moves P Q folder broken (behind h (here f)) = behind h (here f)
+later_moves P Q folder broken (behind h (behind i (here f))) = behind h (behind i (here f))
+later_moves P Q folder broken (behind h (behind i (behind j (here f)))) = behind h (behind i (behind j (here f)))
+
+first_breaks : (IsBroken : Broken → Type 0) (broken : Broken) → IsFirstPlace IsBroken broken → IsBroken broken
+first_breaks IsBroken broken first = (first.1.exact broken).0 (contains_head broken first.0)
+
+class_rule : (broken : Broken) (folder : List File) → InClassFiles IsBadClass folder broken → broken.rule ≡ ClassBad
+class_rule broken folder (role, content, present, inl (at, fault, e)) = ap (λ (b : Broken). b.rule) e
+class_rule broken folder (role, content, present, inr (at, fault, e)) = ap (λ (b : Broken). b.rule) e
+
+-- none of them is told as rule 9
+later_rule : (folder : List File) (broken : Broken) → FirstOf (Breaks Unlimited folder) later_rules broken → broken.rule ≡ OutOfForm → ⊥
+later_rule folder broken (here f) form =
+    let other : broken.rule ≡ ClassBad = class_rule broken folder (first_breaks (InClassFiles IsBadClass folder) broken f) in cc
+later_rule folder broken (behind h (here f)) form =
+    let breaks = first_breaks (InClassFiles HasOtherVersion folder) broken f in
+    let other : broken.rule ≡ VersionOutside = ap (λ (b : Broken). b.rule) breaks.3.3 in cc
+later_rule folder broken (behind h (behind i (here f))) form =
+    let breaks = first_breaks (InClassFiles HasOtherName folder) broken f in
+    let other : broken.rule ≡ NamePath = ap (λ (b : Broken). b.rule) breaks.3.3 in cc
+later_rule folder broken (behind h (behind i (behind j (here f)))) form =
+    let breaks = first_breaks (BreaksOverwrite folder) broken f in
+    let other : broken.rule ≡ OverwriteMissing = ap (λ (b : Broken). b.rule) breaks.refusal in cc
 
 -- ---- The limit's path among the paths where the form is broken
 
@@ -96,29 +129,17 @@ module _ (Passes : List ℕ → Type 0) (folder : List File) (path : List ℕ) (
   form_rule : (broken : Broken) → BreaksForm Unlimited folder broken → broken.rule ≡ OutOfForm
   form_rule broken breaks = ap (λ (b : Broken). b.rule) breaks.2
 
-  layout_rule : (broken : Broken) → BreaksLayout folder broken → broken.rule ≡ OutOfForm → ⊥
-  layout_rule broken breaks form =
-      let other : broken.rule ≡ ClassBad = ap (λ (b : Broken). b.rule) breaks.5 in cc
-
-  overwrite_rule : (broken : Broken) → BreaksOverwrite folder broken → broken.rule ≡ OutOfForm → ⊥
-  overwrite_rule broken breaks form =
-      let other : broken.rule ≡ OverwriteMissing = ap (λ (b : Broken). b.rule) breaks.refusal in cc
-
   pub limit_after_none : NoneBroken Unlimited folder → FirstBroken Passes folder (out_of_form path)
-  limit_after_none none = form_broken (limit_alone none.form)
+  limit_after_none none = here (limit_alone none.0)
 
   pub stays_first : (broken : Broken) → broken.rule ≡ OutOfForm → IsPathBefore (path_of broken) path → FirstBroken Unlimited folder broken → FirstBroken Passes folder broken
-  stays_first broken rule before (form_broken first) = form_broken (first_before broken first before)
-  stays_first broken rule before (layout_broken form first) =
-      absurd (layout_rule broken ((first.1.exact broken).0 (contains_head broken first.0)) rule)
-  stays_first broken rule before (overwrite_broken form layout first) =
-      absurd (overwrite_rule broken ((first.1.exact broken).0 (contains_head broken first.0)) rule)
+  stays_first broken rule before (here first) = here (first_before broken first before)
+  stays_first broken rule before (behind holds later) = absurd (later_rule folder broken later rule)
 
   pub limit_first : (broken : Broken) → ((broken.rule ≡ OutOfForm) × IsPathBefore (path_of broken) path → ⊥) → FirstBroken Unlimited folder broken → FirstBroken Passes folder (out_of_form path)
-  limit_first broken not_before (form_broken first) =
-      form_broken (first_behind broken first (λ before. not_before (form_rule broken ((first.1.exact broken).0 (contains_head broken first.0)), before)))
-  limit_first broken not_before (layout_broken form first) = form_broken (limit_alone form)
-  limit_first broken not_before (overwrite_broken form layout first) = form_broken (limit_alone form)
+  limit_first broken not_before (here first) =
+      here (first_behind broken first (λ before. not_before (form_rule broken ((first.1.exact broken).0 (contains_head broken first.0)), before)))
+  limit_first broken not_before (behind holds later) = here (limit_alone holds)
 
 -- ---- Where no path passes the limit
 
@@ -148,10 +169,8 @@ module _ (Passes : List ℕ → Type 0) (folder : List File) (none : (path : Lis
       back broken breaks = (breaks.0, unlimited breaks.0 breaks.1, breaks.2)
 
   pub none_broken_within : NoneBroken Unlimited folder → NoneBroken Passes folder
-  none_broken_within held =
-      record { form = same_places [] held.form; layout = held.layout; overwrite = held.overwrite }
+  none_broken_within held = (same_places [] held.0, held.1)
 
   pub first_broken_within : (broken : Broken) → FirstBroken Unlimited folder broken → FirstBroken Passes folder broken
-  first_broken_within broken (form_broken first) = form_broken (first.0, same_places (broken ∷ first.0) first.1)
-  first_broken_within broken (layout_broken form first) = layout_broken (same_places [] form) first
-  first_broken_within broken (overwrite_broken form layout first) = overwrite_broken (same_places [] form) layout first
+  first_broken_within broken (here first) = here (first.0, same_places (broken ∷ first.0) first.1)
+  first_broken_within broken (behind form later) = behind (same_places [] form) (later_moves Unlimited Passes folder broken later)

@@ -6,12 +6,12 @@ use Rattle.std.proofs.lemmas.List.Sums.{sum_by-take-le}
 use Rattle.std.proofs.lemmas.Option.{get_or_from_slice_get}
 use Rattle.wv_base.specs.Folder.{File}
 use Rattle.wv_base.specs.declared.broken.Broken.{Broken}
-use Rattle.wv_model.specs.FirstForm.{BreaksForm, BreaksLayout, BreaksOverwrite, FirstBroken, FirstBrokenOf, Holds, IsFirstPlace, NoneBroken, NoneBrokenOf, out_of_form, form_broken, layout_broken, overwrite_broken}
+use Rattle.wv_weave.specs.FirstForm.{Breaks, FirstBroken, FirstBrokenOf, NoneBrokenOf, out_of_form, rules}
 use Rattle.wv_model.specs.FolderRead.{PassesLimit, IsReading, as_read, read_size}
 use Rattle.wv_weave.specs.declared.fault.WeaveFault.{WeaveFault}
 use Rattle.wv_weave.specs.declared.fault.WeaveFault.TheVariants as faults
 use Rattle.wv_top.specs.Rules.{Refuses, RefusesAt}
-use Rattle.wv_model.proofs.FirstPlace.{one_broken}
+use Rattle.wv_weave.proofs.FirstPlace.{one_broken, some_or_none}
 use Rattle.wv_top.proofs.ReadFolder.{size, size-read, read_size-more}
 
 -- a list is parted at a place within it
@@ -66,22 +66,10 @@ one_broken_of files first second a b =
     let same : b.0 ≡ a.0 = one_reading files b.0 a.0 b.1 a.1 in
     one_broken (PassesLimit files) a.0 first second a.2 (subst (λ (folder : List File). FirstBroken (PassesLimit files) folder second) same b.2)
 
-module _ (Breaks : Broken → Type 0) where
-  none_is_first : (broken : Broken) → Holds Breaks → IsFirstPlace Breaks broken → ⊥
-  none_is_first broken holds first =
-      let breaks = (first.1.exact broken).0 (0, omega arith, refl) in
-      let found = (holds.exact broken).1 breaks in
-      omega (arith, found.1)
-
-none_and_first : (Passes : List ℕ → Type 0) (folder : List File) (broken : Broken) → NoneBroken Passes folder → FirstBroken Passes folder broken → ⊥
-none_and_first Passes folder broken none (form_broken first) = none_is_first (BreaksForm Passes folder) broken none.form first
-none_and_first Passes folder broken none (layout_broken form first) = none_is_first (BreaksLayout folder) broken none.layout first
-none_and_first Passes folder broken none (overwrite_broken form layout first) = none_is_first (BreaksOverwrite folder) broken none.overwrite first
-
 -- files that break no rule have no first one that they break
 pub none_or_first : (files : List File) (broken : Broken) → NoneBrokenOf files → FirstBrokenOf files broken → ⊥
 none_or_first files broken none first =
-    none_and_first (PassesLimit files) none.0 broken none.2
+    some_or_none (Breaks (PassesLimit files) none.0) rules broken none.2
     (subst (λ (folder : List File). FirstBroken (PassesLimit files) folder broken) (one_reading files first.0 none.0 first.1 none.1) first.2)
 
 -- a refusal at a path is the first one where that at this path is

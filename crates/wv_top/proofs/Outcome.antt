@@ -7,7 +7,7 @@ use Rattle.wv_base.specs.declared.broken.Broken.{Broken}
 use Rattle.wv_tree.specs.Sink.{with_bytes, AddsFirst}
 use Rattle.wv_tree.specs.Tree.{Folders}
 use Rattle.wv_tree.specs.declared.outlet.PutFile.{PutFile}
-use Rattle.wv_model.specs.FirstForm.{FirstBrokenOf, NoneBrokenOf}
+use Rattle.wv_weave.specs.FirstForm.{FirstBrokenOf, NoneBrokenOf}
 use Rattle.wv_weave.specs.declared.fault.WeaveFault.{WeaveFault}
 use Rattle.wv_weave.specs.declared.weaver.Woven.{Woven}
 use Rattle.wv_weave.specs.Woven.{IsOneEdit}
@@ -17,7 +17,7 @@ use Rattle.wv_top.specs.Words.{Command}
 use Rattle.wv_top.specs.Lines.{usage_line, summary_line, form_summary}
 use Rattle.wv_top.specs.Reading.{WhereTold, IsReadingOf}
 use Rattle.wv_top.specs.Rules.{IsWovenOf, MeansOf, Weaves}
-use Rattle.wv_model.proofs.FirstMeaning.{woven_corresponds}
+use Rattle.wv_weave.proofs.WovenMeaning.{woven_corresponds}
 use Rattle.wv_top.specs.Puts.{AreWritten, Puts, with_files}
 use Rattle.wv_top.specs.Ends.{FitsRules, IsLineOf, Prints, refuses, sums_up}
 use Rattle.wv_top.proofs.ReadFolder.{where_from}

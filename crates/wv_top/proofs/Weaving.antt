@@ -2,9 +2,9 @@
 use Rattle.std.proofs.Common.{◌≡◌, ℕ, List, Result, Ok, Err, IfOk, refl}
 use Rattle.wv_base.specs.Folder.{File}
 use Rattle.wv_base.specs.declared.broken.Broken.{Broken}
-use Rattle.wv_model.specs.FirstForm.{FirstBroken, NoneBroken, Unlimited}
+use Rattle.wv_weave.specs.FirstForm.{FirstBroken, NoneBroken, Unlimited}
 use Rattle.wv_model.specs.FolderRead.{PassesLimit, IsReading}
-use Rattle.wv_model.specs.MemberTable.{IsWoven}
+use Rattle.wv_weave.specs.WovenFiles.{IsWoven}
 use Rattle.wv_weave.specs.declared.fault.WeaveFault.{WeaveFault}
 use Rattle.wv_weave.specs.declared.fault.WeaveFault.TheVariants as faults
 use Rattle.wv_weave.specs.declared.weaver.Woven.{Woven}

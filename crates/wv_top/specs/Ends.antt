@@ -6,7 +6,7 @@ use Rattle.wv_tree.specs.Tree.{Folders}
 use Rattle.wv_base.specs.Folder.{File}
 use Rattle.wv_base.specs.Line.{refusal}
 use Rattle.wv_base.specs.declared.broken.Broken.{Broken}
-use Rattle.wv_model.specs.FirstForm.{FirstBrokenOf, NoneBrokenOf}
+use Rattle.wv_weave.specs.FirstForm.{FirstBrokenOf, NoneBrokenOf}
 use Rattle.wv_top.specs.Lines.{usage_line, form_summary}
 use Rattle.wv_top.specs.Reading.{WhereTold}
 use Rattle.wv_top.specs.Rules.{SomeBrokenOf}

@@ -2,10 +2,9 @@
 use Rattle.std.specs.Prelude.{◌≡◌, ℕ, ⊤, List, Result, Ok, Err}
 use Rattle.wv_base.specs.Folder.{File}
 use Rattle.wv_base.specs.declared.broken.Broken.{Broken}
-use Rattle.wv_model.specs.FirstForm.{FirstBroken, FirstBrokenOf, NoneBrokenOf, out_of_form}
+use Rattle.wv_weave.specs.FirstForm.{FirstBroken, FirstBrokenOf, NoneBrokenOf, out_of_form}
 use Rattle.wv_model.specs.FolderRead.{IsReading, PassesLimit}
-use Rattle.wv_model.specs.FirstMeaning.{MeansFolder}
-use Rattle.wv_model.specs.MemberTable.{IsWoven}
+use Rattle.wv_weave.specs.WovenFiles.{IsWoven, MeansFolder}
 use Rattle.wv_weave.specs.declared.fault.WeaveFault.{WeaveFault}
 use Rattle.wv_weave.specs.declared.fault.WeaveFault.TheVariants as faults
 use Rattle.wv_weave.specs.declared.weaver.Woven.{Woven}

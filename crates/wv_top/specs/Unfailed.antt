@@ -3,7 +3,7 @@ use Rattle.std.specs.Prelude.{ℕ, List, Some}
 use Rattle.wv_base.specs.Folder.{File}
 use Rattle.wv_tree.specs.Fault.{Rises}
 use Rattle.wv_tree.specs.Tree.{Folders}
-use Rattle.wv_model.specs.FirstForm.{NoneBrokenOf}
+use Rattle.wv_weave.specs.FirstForm.{NoneBrokenOf}
 use Rattle.wv_top.specs.Words.{Command}
 use Rattle.wv_top.specs.Rules.{SomeBrokenOf}
 use Rattle.wv_top.specs.Ends.{FitsWords, FitsRules, TellsReading, TellsWriting}

@@ -3,7 +3,7 @@ ghost use Rattle.std.specs.Prelude.{◌≡◌, List};
 ghost use Rattle.wv_base.specs.Folder.{File};
 ghost use Rattle.wv_base.specs.declared.broken.Broken.{Broken};
 ghost use Rattle.wv_tree.specs.Tree.{Folders};
-ghost use Rattle.wv_model.specs.FirstForm.{FirstBrokenOf, NoneBrokenOf};
+ghost use Rattle.wv_weave.specs.FirstForm.{FirstBrokenOf, NoneBrokenOf};
 ghost use Rattle.wv_top.specs.Words.{Command};
 ghost use Rattle.wv_top.specs.Rules.{SomeBrokenOf};
 ghost use Rattle.wv_top.specs.Unfailed.{EndsUnfailed, Decides};

@@ -1,7 +1,7 @@
 //! The first broken rule of what was read, or what it is woven to.
 ghost use Rattle.std.specs.Prelude.{◌≡◌, List, IfOk, MatchBool};
 ghost use Rattle.wv_base.specs.Folder.{File, IsPathBefore};
-ghost use Rattle.wv_model.specs.FirstForm.{FirstBroken, Unlimited};
+ghost use Rattle.wv_weave.specs.FirstForm.{FirstBroken, Unlimited};
 ghost use Rattle.wv_model.specs.FolderRead.{PassesLimit};
 ghost use Rattle.wv_weave.specs.Woven.{IsOneEdit};
 ghost use Rattle.wv_top.specs.Reading.{IsReadingOf};
