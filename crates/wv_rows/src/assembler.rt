@@ -19,23 +19,61 @@ pub(crate) enum Op<'a> {
 
 pub(crate) const RETURN: Op<'static> = Op::Plain(0xb1);
 
+/// An annotation without elements, in a table of its own.
+#[derive(Clone, Copy)]
+pub(crate) struct Marker<'a> {
+    pub(crate) visible: bool,
+    pub(crate) class: &'a str,
+}
+
+/// An attribute, by its name and its content.
+#[derive(Clone, Copy)]
+pub(crate) struct Attribute<'a> {
+    pub(crate) name: &'a str,
+    pub(crate) content: &'a [u8],
+}
+
+/// A field that is public and static.
+#[derive(Clone, Copy)]
+pub(crate) struct Field<'a> {
+    pub(crate) name: &'a str,
+    pub(crate) descriptor: &'a str,
+}
+
 /// A method that is public and static.
 #[derive(Clone, Copy)]
 pub(crate) struct Method<'a> {
     pub(crate) name: &'a str,
     pub(crate) descriptor: &'a str,
     pub(crate) code: &'a [Op<'a>],
-    /// Whether it has the annotation `@Overwrite`.
-    pub(crate) overwrites: bool,
+    /// The attributes of its code.
+    pub(crate) kept: &'a [Attribute<'a>],
+    pub(crate) markers: &'a [Marker<'a>],
 }
 
-/// A class below `java/lang/Object`, of major version 52.
+/// A class below `java/lang/Object`.
 #[derive(Clone, Copy)]
 pub(crate) struct Class<'a> {
+    pub(crate) major: u16,
+    pub(crate) minor: u16,
     pub(crate) name: &'a str,
+    pub(crate) fields: &'a [Field<'a>],
+    pub(crate) methods: &'a [Method<'a>],
     /// The descriptor of the class that its annotation `@Mixin` names, where it has one.
     pub(crate) target: Option<&'a str>,
-    pub(crate) methods: &'a [Method<'a>],
+    pub(crate) markers: &'a [Marker<'a>],
+    pub(crate) kept: &'a [Attribute<'a>],
+}
+
+/// How many bytes attributes take.
+fn size_of(attributes: &[Attribute<'_>]) -> usize {
+    let mut size = 0usize;
+    for attribute in attributes {
+        size = size
+            .saturating_add(6)
+            .saturating_add(attribute.content.len());
+    }
+    size
 }
 
 /// A class file that is written: its constant pool, and the bytes behind the pool.
@@ -121,6 +159,34 @@ impl Assembler {
         }
     }
 
+    fn count(&mut self, count: usize) -> Result<(), AllocError> {
+        self.short(u16::try_from(count).unwrap_or(0))
+    }
+
+    fn attributes(&mut self, attributes: &[Attribute<'_>]) -> Result<(), AllocError> {
+        for attribute in attributes {
+            let name = self.text(attribute.name)?;
+            self.short(name)?;
+            self.length(attribute.content.len())?;
+            self.rest.extend_from_slice(attribute.content)?;
+        }
+        Ok(())
+    }
+
+    /// The attribute Code, with eight words on the stack and eight locals, which catches nothing.
+    fn code(&mut self, code: &[u8], kept: &[Attribute<'_>]) -> Result<(), AllocError> {
+        let name = self.text("Code")?;
+        self.short(name)?;
+        self.length(code.len().saturating_add(12).saturating_add(size_of(kept)))?;
+        self.short(8)?;
+        self.short(8)?;
+        self.length(code.len())?;
+        self.rest.extend_from_slice(code)?;
+        self.short(0)?;
+        self.count(kept.len())?;
+        self.attributes(kept)
+    }
+
     fn method(&mut self, method: Method<'_>) -> Result<(), AllocError> {
         let name = self.text(method.name)?;
         let descriptor = self.text(method.descriptor)?;
@@ -131,41 +197,77 @@ impl Assembler {
         self.short(0x0009)?;
         self.short(name)?;
         self.short(descriptor)?;
-        self.short(if method.overwrites { 2 } else { 1 })?;
-        let code_name = self.text("Code")?;
-        self.short(code_name)?;
-        self.length(code.len().saturating_add(12))?;
-        self.short(8)?;
-        self.short(8)?;
-        self.length(code.len())?;
-        self.rest.extend_from_slice(code.as_slice())?;
-        self.short(0)?;
-        self.short(0)?;
-        if method.overwrites {
-            self.annotation("Lorg/spongepowered/asm/mixin/Overwrite;", 6)?;
-            self.short(0)?;
-        }
-        Ok(())
+        self.count(method.markers.len().saturating_add(1))?;
+        self.code(code.as_slice(), method.kept)?;
+        self.markers(method.markers)
     }
 
-    /// A table of one invisible annotation, up to the count of its elements.
-    fn annotation(&mut self, descriptor: &str, length: usize) -> Result<(), AllocError> {
-        let table = self.text("RuntimeInvisibleAnnotations")?;
-        let class = self.text(descriptor)?;
+    fn field(&mut self, field: Field<'_>) -> Result<(), AllocError> {
+        let name = self.text(field.name)?;
+        let descriptor = self.text(field.descriptor)?;
+        self.short(0x0009)?;
+        self.short(name)?;
+        self.short(descriptor)?;
+        self.short(0)
+    }
+
+    /// A table of one annotation, up to the count of its elements.
+    fn annotation(&mut self, visible: bool, class: &str, length: usize) -> Result<(), AllocError> {
+        let table = self.text(if visible {
+            "RuntimeVisibleAnnotations"
+        } else {
+            "RuntimeInvisibleAnnotations"
+        })?;
+        let descriptor = format!(in self.alloc; "L{class};")?;
+        let class = self.text(descriptor.as_str())?;
         self.short(table)?;
         self.length(length)?;
         self.short(1)?;
         self.short(class)
     }
 
+    fn markers(&mut self, markers: &[Marker<'_>]) -> Result<(), AllocError> {
+        for marker in markers {
+            self.annotation(marker.visible, marker.class, 6)?;
+            self.short(0)?;
+        }
+        Ok(())
+    }
+
     fn mixin(&mut self, target: &str) -> Result<(), AllocError> {
-        self.annotation("Lorg/spongepowered/asm/mixin/Mixin;", 14)?;
+        self.annotation(false, "org/spongepowered/asm/mixin/Mixin", 14)?;
         let value = self.text("value")?;
         let target = self.text(target)?;
         self.short(1)?;
         self.short(value)?;
         self.rest.extend_from_slice(b"[\0\x01c")?;
         self.short(target)
+    }
+
+    fn members(&mut self, class: Class<'_>) -> Result<(), AllocError> {
+        self.count(class.fields.len())?;
+        for field in class.fields {
+            self.field(*field)?;
+        }
+        self.count(class.methods.len())?;
+        for method in class.methods {
+            self.method(*method)?;
+        }
+        Ok(())
+    }
+
+    /// The annotations and the other attributes of the class.
+    fn class_attributes(&mut self, class: Class<'_>) -> Result<(), AllocError> {
+        let others = class.markers.len().saturating_add(class.kept.len());
+        match class.target {
+            None => self.count(others)?,
+            Some(target) => {
+                self.count(others.saturating_add(1))?;
+                self.mixin(target)?;
+            }
+        }
+        self.markers(class.markers)?;
+        self.attributes(class.kept)
     }
 }
 
@@ -183,19 +285,11 @@ pub(crate) fn assemble(alloc: Global, class: Class<'_>) -> Result<Vec<u8>, Alloc
     assembler.short(name)?;
     assembler.short(superclass)?;
     assembler.short(0)?;
-    assembler.short(0)?;
-    assembler.short(u16::try_from(class.methods.len()).unwrap_or(0))?;
-    for method in class.methods {
-        assembler.method(*method)?;
-    }
-    match class.target {
-        None => assembler.short(0)?,
-        Some(target) => {
-            assembler.short(1)?;
-            assembler.mixin(target)?;
-        }
-    }
-    let mut bytes = Vec::from_slice(alloc, &[0xca, 0xfe, 0xba, 0xbe, 0, 0, 0, 52])?;
+    assembler.members(class)?;
+    assembler.class_attributes(class)?;
+    let mut bytes = Vec::from_slice(alloc, &[0xca, 0xfe, 0xba, 0xbe])?;
+    bytes.extend_from_slice(&class.minor.to_be_bytes())?;
+    bytes.extend_from_slice(&class.major.to_be_bytes())?;
     bytes.extend_from_slice(&assembler.count.to_be_bytes())?;
     bytes.extend_from_slice(assembler.pool.as_slice())?;
     bytes.extend_from_slice(assembler.rest.as_slice())?;

@@ -2,35 +2,21 @@
 
 use crate::assembler::RETURN;
 use crate::form::{
-    File, NONE, PRINTS_SEVEN, WEAVE, WOVEN, files, folder, main_class, mixin_class, refuses, run,
+    File, NONE, PRINTS_SEVEN, files, folder, main_class, mixin_class, refuses, run, woven,
 };
 use std::process::Abort;
 use std::test::Fail;
-use wv_base::{ClassFile, Insn, Side};
+use wv_base::{Insn, Side};
+use wv_class::{is_formed, read_class, write_class};
 use wv_top::Status;
-use wv_weave::{WeaveFault, is_plain, is_writable, read_class, weave, write_class};
-
-/// The class of bytes that are plain.
-fn read_plain(rt: &(impl Abort + AllocGlobal), bytes: &[u8]) -> Result<ClassFile, Fail> {
-    let alloc = rt.alloc();
-    assert!(rt; is_plain(alloc, bytes)?);
-    Ok(read_class(alloc, bytes)?)
-}
+use wv_weave::{WeaveFault, weave};
 
 #[test]
 fn one_overwrite_is_woven(rt: HostRuntime) -> Result<(), Fail> {
     let alloc = rt.alloc();
     let files = files(alloc, mixin_class(alloc, "f", &PRINTS_SEVEN)?, None)?;
-    let outcome = run(&rt, &WEAVE, files, NONE)?;
-    assert_eq!(rt; outcome.printed.as_slice(), WOVEN.as_bytes());
-    assert_eq!(rt; outcome.status, Status::Done);
-    assert_eq!(rt; outcome.put.len(), 1);
-    assert_eq!(rt; outcome.put[0].folder.as_slice(), b"o".as_slice());
-    assert_eq!(rt;
-        outcome.put[0].path.as_slice(),
-        b"app/Main.class".as_slice()
-    );
-    let class = read_plain(&rt, outcome.put[0].bytes.as_slice())?;
+    let bytes = woven(&rt, files)?;
+    let class = read_class(alloc, bytes.as_slice())?;
     assert!(rt; class.name.is_ascii("app/Main"));
     assert_eq!(rt; class.methods.len(), 2);
     let f = class.methods.get(1).ok_or("the second method")?;
@@ -47,12 +33,12 @@ fn broken_rules_are_refused(rt: HostRuntime) -> Result<(), Fail> {
     refuses(
         &rt,
         files(alloc, mixin_class(alloc, "gone", &[RETURN])?, None)?,
-        "refused: rule 51 OverwriteMissing at mods/alpha/alpha/mixin/MainMixin.class:gone()V wanted app/Main.gone()V found -\n",
+        "rule 51 OverwriteMissing at mods/alpha/alpha/mixin/MainMixin.class:gone()V wanted app/Main.gone()V found -",
     )?;
     refuses(
         &rt,
         files(alloc, Vec::from_slice(alloc, &[0xca, 0xfe])?, None)?,
-        "refused: rule 30 ClassBad at mods/alpha/alpha/mixin/MainMixin.class wanted layout found 2\n",
+        "rule 30 ClassBad at mods/alpha/alpha/mixin/MainMixin.class wanted layout found 2",
     )?;
     let besides = File {
         path: "game/app/B.class",
@@ -65,7 +51,7 @@ fn broken_rules_are_refused(rt: HostRuntime) -> Result<(), Fail> {
             mixin_class(alloc, "f", &PRINTS_SEVEN)?,
             Some(besides),
         )?,
-        "refused: rule 9 OutOfForm at game/app/B.class wanted - found -\n",
+        "rule 9 OutOfForm at game/app/B.class wanted - found -",
     )
 }
 
@@ -92,12 +78,13 @@ fn words_that_are_no_command_are_answered(rt: HostRuntime) -> Result<(), Fail> {
 fn a_written_class_is_read_again(rt: HostRuntime) -> Result<(), Fail> {
     let alloc = rt.alloc();
     let bytes = main_class(alloc)?;
-    let class = read_plain(&rt, bytes.as_slice())?;
-    assert!(rt; is_writable(alloc, &class)?);
+    let class = read_class(alloc, bytes.as_slice())?;
+    assert!(rt; is_formed(alloc, &class)?);
     let written = write_class(alloc, &class)?;
+    let written = written.as_slice();
     assert!(rt; written.len() > 100 && bytes.len() > 100);
-    assert_eq!(rt; &written.as_slice()[10..100], &bytes[10..100]);
-    let again = read_plain(&rt, written.as_slice())?;
+    assert_eq!(rt; &written[10..100], &bytes[10..100]);
+    let again = read_class(alloc, written)?;
     assert_eq!(rt; again.methods.len(), class.methods.len());
     let files = files(alloc, mixin_class(alloc, "f", &PRINTS_SEVEN)?, None)?;
     match weave(alloc, &folder(&rt, files)?, Side::Client) {

@@ -1,6 +1,6 @@
 //! Folders of the first form, and calls of the loader over them.
 
-use crate::assembler::{Class, Method, Op, RETURN, assemble};
+use crate::assembler::{Class, Marker, Method, Op, RETURN, assemble};
 use std::alloc::{AllocError, Global};
 use std::process::Abort;
 use std::test::Fail;
@@ -28,29 +28,59 @@ pub(crate) struct File {
     pub(crate) bytes: Vec<u8>,
 }
 
-fn method<'a>(name: &'a str, code: &'a [Op<'a>]) -> Method<'a> {
-    Method {
-        name,
-        descriptor: "()V",
-        code,
-        overwrites: false,
-    }
-}
+/// The static method `f` of no parameter, which does nothing.
+pub(crate) const F: Method<'static> = Method {
+    name: "f",
+    descriptor: "()V",
+    code: &[RETURN],
+    kept: &[],
+    markers: &[],
+};
 
-/// `app/Main`, whose `main` calls `f`, which does nothing.
+/// The method `main`, which calls `f`.
+pub(crate) const MAIN: Method<'static> = Method {
+    name: "main",
+    descriptor: "([Ljava/lang/String;)V",
+    code: &[Op::Call("app/Main", "f"), RETURN],
+    ..F
+};
+
+pub(crate) const PRINTS_SEVEN: [Op<'static>; 4] = [Op::Out, Op::Push(7), Op::Println, RETURN];
+
+pub(crate) const OVERWRITE: Marker<'static> = Marker {
+    visible: false,
+    class: "org/spongepowered/asm/mixin/Overwrite",
+};
+
+/// The method of the mixin, which overwrites `f`.
+pub(crate) const PRINTING: Method<'static> = Method {
+    code: &PRINTS_SEVEN,
+    markers: &[OVERWRITE],
+    ..F
+};
+
+/// The game's class, with `main` and `f`.
+pub(crate) const GAME_CLASS: Class<'static> = Class {
+    major: 52,
+    minor: 0,
+    name: "app/Main",
+    fields: &[],
+    methods: &[MAIN, F],
+    target: None,
+    markers: &[],
+    kept: &[],
+};
+
+/// The mixin, whose `f` prints seven.
+pub(crate) const MIXIN: Class<'static> = Class {
+    name: "alpha/mixin/MainMixin",
+    methods: &[PRINTING],
+    target: Some("Lapp/Main;"),
+    ..GAME_CLASS
+};
+
 pub(crate) fn main_class(alloc: Global) -> Result<Vec<u8>, AllocError> {
-    let call = [Op::Call("app/Main", "f"), RETURN];
-    let main = Method {
-        descriptor: "([Ljava/lang/String;)V",
-        ..method("main", &call)
-    };
-    let methods = [main, method("f", &[RETURN])];
-    let class = Class {
-        name: "app/Main",
-        target: None,
-        methods: &methods,
-    };
-    assemble(alloc, class)
+    assemble(alloc, GAME_CLASS)
 }
 
 /// The mixin, with one method that has this code.
@@ -60,29 +90,43 @@ pub(crate) fn mixin_class(
     code: &[Op<'_>],
 ) -> Result<Vec<u8>, AllocError> {
     let methods = [Method {
-        overwrites: true,
-        ..method(name, code)
+        name,
+        code,
+        ..PRINTING
     }];
     let class = Class {
-        name: "alpha/mixin/MainMixin",
-        target: Some("Lapp/Main;"),
         methods: &methods,
+        ..MIXIN
     };
     assemble(alloc, class)
 }
 
-pub(crate) const PRINTS_SEVEN: [Op<'static>; 4] = [Op::Out, Op::Push(7), Op::Println, RETURN];
+/// Bytes of a file, and what stands in their place where a condition is broken.
+pub(crate) type Edit = (&'static [u8], &'static [u8]);
 
-/// The five files of the form, with this mixin, and the files besides.
-pub(crate) fn files(
+/// The bytes in which the first ones that the edit names are replaced.
+pub(crate) fn edited(alloc: Global, bytes: &[u8], edit: Edit) -> Result<Vec<u8>, Fail> {
+    let (old, new) = edit;
+    for place in 0..bytes.len() {
+        if bytes[place..].starts_with(old) {
+            let mut made = Vec::from_slice(alloc, &bytes[..place])?;
+            made.extend_from_slice(new)?;
+            for byte in bytes.iter().skip(place.saturating_add(old.len())) {
+                made.push(*byte)?;
+            }
+            return Ok(made);
+        }
+    }
+    Err(Fail::from("bytes that are there"))
+}
+
+/// The five files of the form, with these two class files.
+pub(crate) fn form_of(
     alloc: Global,
+    game: Vec<u8>,
     mixin: Vec<u8>,
-    besides: Option<File>,
 ) -> Result<Vec<File>, AllocError> {
     let mut files = Vec::new(alloc);
-    if let Some(file) = besides {
-        files.push(file)?;
-    }
     let texts = [
         ("game/game.json", GAME),
         ("mods/alpha/alpha.mixins.json", CONFIG),
@@ -94,13 +138,27 @@ pub(crate) fn files(
     }
     files.push(File {
         path: MAIN_CLASS,
-        bytes: main_class(alloc)?,
+        bytes: game,
     })?;
     files.push(File {
         path: MIXIN_CLASS,
         bytes: mixin,
     })?;
     files.sort_by_key(|file| file.path.as_bytes())?;
+    Ok(files)
+}
+
+/// The five files of the form, with this mixin, and the files besides.
+pub(crate) fn files(
+    alloc: Global,
+    mixin: Vec<u8>,
+    besides: Option<File>,
+) -> Result<Vec<File>, AllocError> {
+    let mut files = form_of(alloc, main_class(alloc)?, mixin)?;
+    if let Some(file) = besides {
+        files.push(file)?;
+        files.sort_by_key(|file| file.path.as_bytes())?;
+    }
     Ok(files)
 }
 
@@ -194,15 +252,49 @@ pub(crate) fn run(
 
 pub(crate) const WEAVE: [&str; 5] = ["loader", "weave", "f", "--out", "o"];
 
-/// That `weave f --out o` refuses the files with this line, and puts nothing.
+/// That `weave f --out o` refuses the files with this place of a rule, and puts nothing.
 pub(crate) fn refuses(
     rt: &(impl Abort + AllocGlobal),
     files: Vec<File>,
-    line: &str,
+    broken: &str,
 ) -> Result<(), Fail> {
+    let line = format!(in rt.alloc(); "refused: {broken}\n")?;
     let outcome = run(rt, &WEAVE, files, NONE)?;
     assert_eq!(rt; outcome.printed.as_slice(), line.as_bytes());
     assert_eq!(rt; outcome.status, Status::Refused);
     assert!(rt; outcome.put.is_empty());
     Ok(())
+}
+
+/// That the files break rule 9 first at this path.
+pub(crate) fn is_out_of_form(
+    rt: &(impl Abort + AllocGlobal),
+    files: Vec<File>,
+    path: &str,
+) -> Result<(), Fail> {
+    let broken = format!(in rt.alloc(); "rule 9 OutOfForm at {path} wanted - found -")?;
+    refuses(rt, files, broken.as_str())
+}
+
+/// That the bytes of the class file at this path are found to be no class file at this place.
+pub(crate) fn is_bad_layout(
+    rt: &(impl Abort + AllocGlobal),
+    files: Vec<File>,
+    path: &str,
+    at: usize,
+) -> Result<(), Fail> {
+    let broken = format!(in rt.alloc(); "rule 30 ClassBad at {path} wanted layout found {at}")?;
+    refuses(rt, files, broken.as_str())
+}
+
+/// The bytes of the one class file that `weave f --out o` puts.
+pub(crate) fn woven(rt: &(impl Abort + AllocGlobal), files: Vec<File>) -> Result<Vec<u8>, Fail> {
+    let mut outcome = run(rt, &WEAVE, files, NONE)?;
+    assert_eq!(rt; outcome.printed.as_slice(), WOVEN.as_bytes());
+    assert_eq!(rt; outcome.status, Status::Done);
+    let put = outcome.put.pop().ok_or("a file")?;
+    assert!(rt; outcome.put.is_empty());
+    assert_eq!(rt; put.folder.as_slice(), b"o".as_slice());
+    assert_eq!(rt; put.path.as_slice(), b"app/Main.class".as_slice());
+    Ok(put.bytes)
 }

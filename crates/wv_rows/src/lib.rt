@@ -10,3 +10,5 @@ mod first_form;
 mod form;
 #[cfg(test)]
 mod tables;
+#[cfg(test)]
+mod wider_form;

@@ -2,8 +2,8 @@
 
 use crate::assembler::RETURN;
 use crate::form::{
-    Failing, File, MAIN_CLASS, MIXIN_CLASS, NONE, PRINTS_SEVEN, WEAVE, WOVEN, files, mixin_class,
-    refuses, run,
+    Edit, Failing, File, MAIN_CLASS, MIXIN_CLASS, NONE, PRINTS_SEVEN, WEAVE, WOVEN, edited, files,
+    is_bad_layout, is_out_of_form, mixin_class, refuses, run,
 };
 use std::alloc::{AllocError, Global};
 use std::process::Abort;
@@ -153,31 +153,14 @@ fn each_failing_call_is_answered(rt: HostRuntime) -> Result<(), Fail> {
     Ok(())
 }
 
-/// That the files break rule 9 first at this path.
-fn is_out_of_form(
-    rt: &(impl Abort + AllocGlobal),
-    files: Vec<File>,
-    path: &str,
-) -> Result<(), Fail> {
-    let line = format!(in rt.alloc(); "refused: rule 9 OutOfForm at {path} wanted - found -\n")?;
-    refuses(rt, files, line.as_str())
-}
-
-/// A mixin cut within its magic number breaks rule 30 at its end, and cut behind it rule 9.
+/// A mixin that ends too early breaks rule 30 at its end.
 #[test]
 fn a_cut_mixin_is_refused(rt: HostRuntime) -> Result<(), Fail> {
     let alloc = rt.alloc();
     let whole = mixin_class(alloc, "f", &PRINTS_SEVEN)?;
     for length in 0..whole.len() {
         let files = files(alloc, Vec::from_slice(alloc, &whole[..length])?, None)?;
-        if length < 4 {
-            let line = format!(in alloc;
-                "refused: rule 30 ClassBad at {MIXIN_CLASS} wanted layout found {length}\n"
-            )?;
-            refuses(&rt, files, line.as_str())?;
-        } else {
-            is_out_of_form(&rt, files, MIXIN_CLASS)?;
-        }
+        is_bad_layout(&rt, files, MIXIN_CLASS, length)?;
     }
     Ok(())
 }
@@ -236,36 +219,57 @@ fn one_file_too_many_is_out_of_form(rt: HostRuntime) -> Result<(), Fail> {
     Ok(())
 }
 
-/// Bytes of a file, and what stands in their place where one condition of the form is broken.
-type Edit = (&'static [u8], &'static [u8]);
-
-/// Of the game class: its version and pool, its own words, its methods and their code.
-const MAIN_EDITS: [Edit; 17] = [
-    (b"\xbe\x00\x00\x00\x34", b"\xbe\x00\x01\x00\x34"),
-    (b"\x00\x00\x00\x34", b"\x00\x00\x00\x35"),
-    (b"\x07\x00\x01", b"\x08\x00\x01"),
-    (b"\x01\x00\x01f", b"\x01\x00\x01\x80"),
-    (b"\x01\x00\x01f", b"\x01\x00\x01\x00"),
+/// Of the game class, against the form: its own words, its methods and their code.
+const MAIN_EDITS: [Edit; 7] = [
     (b"\x00\x21\x00\x02", b"\x00\x20\x00\x02"),
-    (b"app/Main", b"app/Mail"),
     (b"java/lang/Object", b"java/lang/Objecs"),
     (
         b"\x00\x04\x00\x00\x00\x00",
         b"\x00\x04\x00\x01\x00\x04\x00\x00",
     ),
     (b"\x00\x02\x00\x09", b"\x00\x02\x00\x01"),
-    (b"main", b"<ain"),
     (b"([Ljava/lang/String;)V", b"([Ljava/lang/Strong;)V"),
-    (b"Code", b"Node"),
     (b"\x00\x08\x00\x08", b"\x00\x08\x00\x00"),
     (b"\x00\x00\x00\x01\xb1", b"\x00\x00\x00\x01\x00"),
-    (b"\xb1\x00\x00\x00\x00", b"\xb1\x00\x01\x00\x00"),
-    (b"\xb1\x00\x00\x00\x00", b"\xb1\x00\x00\x00\x01"),
 ];
 
-/// Of the mixin: its name and annotation, its method and the code.
-const MIXIN_EDITS: [Edit; 12] = [
-    (b"alpha/mixin/MainMixin", b"alpha/mixin/MainMixis"),
+/// Of the game class, against the layout. The text `f` stands at 95, and no unit is spelled with these
+/// bytes. The counts of ranges and of attributes behind the code of `main` stand at 174 and 176, and
+/// the attribute's length leaves no room for another count than 0.
+const LAYOUT_EDITS: [(Edit, usize); 4] = [
+    ((b"\x01\x00\x01f", b"\x01\x00\x01\x80"), 95),
+    ((b"\x01\x00\x01f", b"\x01\x00\x01\x00"), 95),
+    ((b"\xb1\x00\x00\x00\x00", b"\xb1\x00\x01\x00\x00"), 175),
+    ((b"\xb1\x00\x00\x00\x00", b"\xb1\x00\x00\x00\x01"), 177),
+];
+
+/// Of the game class, against other rules. Its pool ends at 136. Its own number at 138 then names a
+/// String, the method at 148 has no code, and the number at 150 names no method's name.
+const OTHER_EDITS: [(Edit, &str); 5] = [
+    (
+        (b"\x07\x00\x01", b"\x08\x00\x01"),
+        "rule 30 ClassBad at game/app/Main.class wanted reference found 138",
+    ),
+    (
+        (b"Code", b"Node"),
+        "rule 30 ClassBad at game/app/Main.class wanted reference found 148",
+    ),
+    (
+        (b"main", b"<ain"),
+        "rule 30 ClassBad at game/app/Main.class wanted reference found 150",
+    ),
+    (
+        (b"\x00\x00\x00\x34", b"\x00\x00\x00\x35"),
+        "rule 31 VersionOutside at game/app/Main.class wanted 50 to 52 found 53",
+    ),
+    (
+        (b"app/Main", b"app/Mail"),
+        "rule 32 NamePath at game/app/Main.class wanted app/Main found app/Mail",
+    ),
+];
+
+/// Of the mixin, against the form: its annotation, its method and the code.
+const MIXIN_EDITS: [Edit; 11] = [
     (
         b"Lorg/spongepowered/asm/mixin/Mixin;",
         b"Lorg/spongepowered/asm/mixin/Mixis;",
@@ -291,25 +295,15 @@ const MIXIN_EDITS: [Edit; 12] = [
 /// Of each JSON file.
 const TEXT_EDITS: [Edit; 1] = [(b"1.0.0", b"1.0.1")];
 
-/// The bytes in which the first ones that the edit names are replaced.
-fn edited(alloc: Global, bytes: &[u8], edit: Edit) -> Result<Vec<u8>, AllocError> {
-    let (old, new) = edit;
-    let mut start = 0;
-    for place in 0..bytes.len() {
-        if bytes[place..].starts_with(old) {
-            start = place;
-            break;
+/// The five files, of which the one with this path is edited.
+fn with_edit(alloc: Global, path: &str, edit: Edit) -> Result<Vec<File>, Fail> {
+    let mut files = form(alloc)?;
+    for file in files.iter_mut() {
+        if file.path == path {
+            file.bytes = edited(alloc, file.bytes.as_slice(), edit)?;
         }
     }
-    let mut made = Vec::new(alloc);
-    for byte in bytes.iter().take(start) {
-        made.push(*byte)?;
-    }
-    made.extend_from_slice(new)?;
-    for byte in bytes.iter().skip(start.saturating_add(old.len())) {
-        made.push(*byte)?;
-    }
-    Ok(made)
+    Ok(files)
 }
 
 /// That each of the edits to the file with this path breaks rule 9 first there.
@@ -318,15 +312,8 @@ fn each_is_out_of_form(
     path: &str,
     edits: &[Edit],
 ) -> Result<(), Fail> {
-    let alloc = rt.alloc();
     for edit in edits {
-        let mut files = form(alloc)?;
-        for file in files.iter_mut() {
-            if file.path == path {
-                file.bytes = edited(alloc, file.bytes.as_slice(), *edit)?;
-            }
-        }
-        is_out_of_form(rt, files, path)?;
+        is_out_of_form(rt, with_edit(rt.alloc(), path, *edit)?, path)?;
     }
     Ok(())
 }
@@ -341,5 +328,25 @@ fn each_condition_broken_is_out_of_form(rt: HostRuntime) -> Result<(), Fail> {
         &rt,
         "mods/alpha/alpha.mixins.json",
         &[(b"MainMixin", b"OtherMixin")],
+    )
+}
+
+#[test]
+fn each_other_rule_broken_is_refused(rt: HostRuntime) -> Result<(), Fail> {
+    let alloc = rt.alloc();
+    for (edit, at) in LAYOUT_EDITS {
+        is_bad_layout(&rt, with_edit(alloc, MAIN_CLASS, edit)?, MAIN_CLASS, at)?;
+    }
+    for (edit, broken) in OTHER_EDITS {
+        refuses(&rt, with_edit(alloc, MAIN_CLASS, edit)?, broken)?;
+    }
+    refuses(
+        &rt,
+        with_edit(
+            alloc,
+            MIXIN_CLASS,
+            (b"alpha/mixin/MainMixin", b"alpha/mixin/MainMixis"),
+        )?,
+        "rule 32 NamePath at mods/alpha/alpha/mixin/MainMixin.class wanted alpha/mixin/MainMixin found alpha/mixin/MainMixis",
     )
 }
