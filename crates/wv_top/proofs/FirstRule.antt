@@ -26,6 +26,7 @@ later_moves P Q folder broken (here f) = here f
 later_moves P Q folder broken (behind h (here f)) = behind h (here f)
 later_moves P Q folder broken (behind h (behind i (here f))) = behind h (behind i (here f))
 later_moves P Q folder broken (behind h (behind i (behind j (here f)))) = behind h (behind i (behind j (here f)))
+later_moves P Q folder broken (behind h (behind i (behind j (behind k none)))) = elim none [ ]
 
 first_breaks : (IsBroken : Broken → Type 0) (broken : Broken) → IsFirstPlace IsBroken broken → IsBroken broken
 first_breaks IsBroken broken first = (first.1.exact broken).0 (contains_head broken first.0)
@@ -47,6 +48,7 @@ later_rule folder broken (behind h (behind i (here f))) form =
 later_rule folder broken (behind h (behind i (behind j (here f)))) form =
     let breaks = first_breaks (BreaksOverwrite folder) broken f in
     let other : broken.rule ≡ OverwriteMissing = ap (λ (b : Broken). b.rule) breaks.refusal in cc
+later_rule folder broken (behind h (behind i (behind j (behind k none)))) form = elim none [ ]
 
 -- ---- The limit's path among the paths where the form is broken
 
