@@ -87,9 +87,18 @@ pub(crate) fn time<R: Clock + Files + AllocGlobal + Print + Clone + Drop>(
             outlet.put(alloc, path.as_str(), again.as_slice())?;
         }
     }
-    let Tally { read, written, refused, bytes, reading, writing } = tally;
+    let Tally {
+        read,
+        written,
+        refused,
+        bytes,
+        reading,
+        writing,
+    } = tally;
     let (reading, writing) = (reading.as_micros(), writing.as_micros());
-    println!(rt; "classes: {read} read, {refused} refused, {written} written again, {bytes} bytes")?;
+    println!(rt;
+        "classes: {read} read, {refused} refused, {written} written again, {bytes} bytes"
+    )?;
     println!(rt; "classes: {reading} microseconds to read, {writing} to test and write")?;
     Ok(())
 }

@@ -3,6 +3,7 @@
 
 mod classes;
 mod code;
+mod entries;
 mod pool;
 mod resolve;
 
@@ -17,6 +18,7 @@ fn main(rt: HostRuntime) -> Result<()> {
     match words.as_slice() {
         [_, what] if what.as_str() == "pool" => pool::time(&rt, ROUNDS),
         [_, what] if what.as_str() == "code" => code::time(&rt, ROUNDS),
+        [_, what] if what.as_str() == "class" => entries::time(&rt, ROUNDS),
         [_, what] if what.as_str() == "resolve" => resolve::time(&rt, ROUNDS),
         [_, what, folder] if what.as_str() == "classes" => {
             classes::time(&rt, folder.as_str(), None)
@@ -24,6 +26,6 @@ fn main(rt: HostRuntime) -> Result<()> {
         [_, what, folder, out] if what.as_str() == "classes" => {
             classes::time(&rt, folder.as_str(), Some(out.as_str()))
         }
-        _ => Ok(println!(rt; "usage: wv_bench pool|code|resolve, or classes FOLDER [OUT]")?),
+        _ => Ok(println!(rt; "usage: wv_bench pool|code|class|resolve, or classes FOLDER [OUT]")?),
     }
 }
