@@ -1,8 +1,7 @@
 //! The first form: one game class, and one mixin that overwrites one method of it.
 
-use crate::assembler::RETURN;
 use crate::form::{
-    File, NONE, PRINTS_SEVEN, files, folder, main_class, mixin_class, refuses, run, woven,
+    File, NONE, files, folder, main_class, missing_class, mixin_class, refuses, run, woven,
 };
 use std::process::Abort;
 use std::test::Fail;
@@ -14,7 +13,7 @@ use wv_weave::{WeaveFault, weave};
 #[test]
 fn one_overwrite_is_woven(rt: HostRuntime) -> Result<(), Fail> {
     let alloc = rt.alloc();
-    let files = files(alloc, mixin_class(alloc, "f", &PRINTS_SEVEN)?, None)?;
+    let files = files(alloc, mixin_class(alloc)?, None)?;
     let bytes = woven(&rt, files)?;
     let class = read_class(alloc, bytes.as_slice())?;
     assert!(rt; class.name.is_ascii("app/Main"));
@@ -32,7 +31,7 @@ fn broken_rules_are_refused(rt: HostRuntime) -> Result<(), Fail> {
     let alloc = rt.alloc();
     refuses(
         &rt,
-        files(alloc, mixin_class(alloc, "gone", &[RETURN])?, None)?,
+        files(alloc, missing_class(alloc)?, None)?,
         "rule 51 OverwriteMissing at mods/alpha/alpha/mixin/MainMixin.class:gone()V wanted app/Main.gone()V found -",
     )?;
     refuses(
@@ -46,11 +45,7 @@ fn broken_rules_are_refused(rt: HostRuntime) -> Result<(), Fail> {
     };
     refuses(
         &rt,
-        files(
-            alloc,
-            mixin_class(alloc, "f", &PRINTS_SEVEN)?,
-            Some(besides),
-        )?,
+        files(alloc, mixin_class(alloc)?, Some(besides))?,
         "rule 9 OutOfForm at game/app/B.class wanted - found -",
     )
 }
@@ -86,7 +81,7 @@ fn a_written_class_is_read_again(rt: HostRuntime) -> Result<(), Fail> {
     assert_eq!(rt; &written[10..100], &bytes[10..100]);
     let again = read_class(alloc, written)?;
     assert_eq!(rt; again.methods.len(), class.methods.len());
-    let files = files(alloc, mixin_class(alloc, "f", &PRINTS_SEVEN)?, None)?;
+    let files = files(alloc, mixin_class(alloc)?, None)?;
     match weave(alloc, &folder(&rt, files)?, Side::Client) {
         Ok(woven) => assert_eq!(rt; woven.files.len(), 1),
         Err(WeaveFault::Broken(_) | WeaveFault::Memory) => return Err(Fail::from("woven")),

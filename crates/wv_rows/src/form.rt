@@ -79,26 +79,27 @@ pub(crate) const MIXIN: Class<'static> = Class {
     ..GAME_CLASS
 };
 
+/// The mixin, whose method is `gone`.
+const MISSING: Class<'static> = Class {
+    methods: &[Method {
+        name: "gone",
+        code: &[RETURN],
+        ..PRINTING
+    }],
+    ..MIXIN
+};
+
 pub(crate) fn main_class(alloc: Global) -> Result<Vec<u8>, AllocError> {
     assemble(alloc, GAME_CLASS)
 }
 
-/// The mixin, with one method that has this code.
-pub(crate) fn mixin_class(
-    alloc: Global,
-    name: &str,
-    code: &[Op<'_>],
-) -> Result<Vec<u8>, AllocError> {
-    let methods = [Method {
-        name,
-        code,
-        ..PRINTING
-    }];
-    let class = Class {
-        methods: &methods,
-        ..MIXIN
-    };
-    assemble(alloc, class)
+pub(crate) fn mixin_class(alloc: Global) -> Result<Vec<u8>, AllocError> {
+    assemble(alloc, MIXIN)
+}
+
+/// The mixin, whose method the game's class doesn't have.
+pub(crate) fn missing_class(alloc: Global) -> Result<Vec<u8>, AllocError> {
+    assemble(alloc, MISSING)
 }
 
 /// Bytes of a file, and what stands in their place where a condition is broken.

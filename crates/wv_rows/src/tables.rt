@@ -1,9 +1,8 @@
 //! Tables over the first form: each failing call, each cut, and each condition broken once.
 
-use crate::assembler::RETURN;
 use crate::form::{
-    Edit, Failing, File, MAIN_CLASS, MIXIN_CLASS, NONE, PRINTS_SEVEN, WEAVE, WOVEN, edited, files,
-    is_bad_layout, is_out_of_form, mixin_class, refuses, run,
+    Edit, Failing, File, MAIN_CLASS, MIXIN_CLASS, NONE, WEAVE, WOVEN, edited, files, is_bad_layout,
+    is_out_of_form, missing_class, mixin_class, refuses, run,
 };
 use std::alloc::{AllocError, Global};
 use std::process::Abort;
@@ -12,12 +11,12 @@ use wv_top::Status;
 
 /// The five files, which break no rule.
 fn form(alloc: Global) -> Result<Vec<File>, AllocError> {
-    files(alloc, mixin_class(alloc, "f", &PRINTS_SEVEN)?, None)
+    files(alloc, mixin_class(alloc)?, None)
 }
 
 /// The five files, whose mixin overwrites a method that isn't there.
 fn lacking(alloc: Global) -> Result<Vec<File>, AllocError> {
-    files(alloc, mixin_class(alloc, "gone", &[RETURN])?, None)
+    files(alloc, missing_class(alloc)?, None)
 }
 
 /// Which folder a call is over, where the outside fails, and how the call ends.
@@ -157,7 +156,7 @@ fn each_failing_call_is_answered(rt: HostRuntime) -> Result<(), Fail> {
 #[test]
 fn a_cut_mixin_is_refused(rt: HostRuntime) -> Result<(), Fail> {
     let alloc = rt.alloc();
-    let whole = mixin_class(alloc, "f", &PRINTS_SEVEN)?;
+    let whole = mixin_class(alloc)?;
     for length in 0..whole.len() {
         let files = files(alloc, Vec::from_slice(alloc, &whole[..length])?, None)?;
         is_bad_layout(&rt, files, MIXIN_CLASS, length)?;
@@ -195,7 +194,7 @@ fn one_file_too_many_is_out_of_form(rt: HostRuntime) -> Result<(), Fail> {
         "mods/alpha/META-INF/a.jar",
         "z.json",
     ] {
-        let mixin = mixin_class(alloc, "f", &PRINTS_SEVEN)?;
+        let mixin = mixin_class(alloc)?;
         let file = File {
             path,
             bytes: Vec::new(alloc),
@@ -208,7 +207,7 @@ fn one_file_too_many_is_out_of_form(rt: HostRuntime) -> Result<(), Fail> {
         "mods/a.json",
         "mods/alpha/META-INF/a.json",
     ] {
-        let mixin = mixin_class(alloc, "f", &PRINTS_SEVEN)?;
+        let mixin = mixin_class(alloc)?;
         let file = File {
             path,
             bytes: Vec::new(alloc),

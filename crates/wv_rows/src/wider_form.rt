@@ -138,7 +138,7 @@ const FIELD: &[Field<'static>] = &[Field {
 ///
 /// The first entry of a pool is the class's name, whose bytes begin at 13. No text has a zero byte.
 /// The Class behind a name of five bytes has the number of its name at 19, and `app;E` is no class's.
-const BROKEN: [(Class<'static>, Class<'static>, &str); 14] = [
+const BROKEN_BY_ONE: [(Class<'static>, Class<'static>, &str); 5] = [
     // The mixin alone.
     (
         GAME_CLASS,
@@ -180,6 +180,10 @@ const BROKEN: [(Class<'static>, Class<'static>, &str); 14] = [
         },
         "rule 32 NamePath at mods/alpha/alpha/mixin/MainMixin.class wanted alpha/mixin/MainMixin found app/E",
     ),
+];
+
+/// The same of two that are both broken.
+const BROKEN_BY_BOTH: [(Class<'static>, Class<'static>, &str); 9] = [
     // The same rule twice.
     (
         Class {
@@ -278,8 +282,16 @@ const BROKEN: [(Class<'static>, Class<'static>, &str); 14] = [
 ];
 
 #[test]
-fn the_first_broken_rule_is_told(rt: HostRuntime) -> Result<(), Fail> {
-    for (game, mixin, broken) in BROKEN {
+fn the_first_rule_that_one_class_breaks_is_told(rt: HostRuntime) -> Result<(), Fail> {
+    for (game, mixin, broken) in BROKEN_BY_ONE {
+        refuses(&rt, of_classes(rt.alloc(), game, mixin)?, broken)?;
+    }
+    Ok(())
+}
+
+#[test]
+fn the_first_rule_that_both_classes_break_is_told(rt: HostRuntime) -> Result<(), Fail> {
+    for (game, mixin, broken) in BROKEN_BY_BOTH {
         refuses(&rt, of_classes(rt.alloc(), game, mixin)?, broken)?;
     }
     Ok(())
@@ -564,17 +576,23 @@ fn a_class_that_names_the_mixin_is_out_of_form(rt: HostRuntime) -> Result<(), Fa
     is_out_of_form(&rt, with_game(alloc, naming)?, MAIN_CLASS)
 }
 
-/// The game's class, with an attribute of this content.
-fn padded(alloc: Global, content: &[u8]) -> Result<Vec<u8>, AllocError> {
-    let kept = [Attribute {
+/// The game's class, with an empty attribute.
+const PADDED: Class<'static> = Class {
+    kept: &[Attribute {
         name: "Padding",
-        content,
-    }];
-    let game = Class {
-        kept: &kept,
-        ..GAME_CLASS
-    };
-    assemble(alloc, game)
+        content: &[],
+    }],
+    ..GAME_CLASS
+};
+
+/// The same with this content, which ends the file, its length before it.
+fn padded(alloc: Global, content: &[u8]) -> Result<Vec<u8>, AllocError> {
+    let empty = assemble(alloc, PADDED)?;
+    let front = empty.len().saturating_sub(4);
+    let mut bytes = Vec::from_slice(alloc, &empty[..front])?;
+    bytes.extend_from_slice(&(content.len() as u32).to_be_bytes())?;
+    bytes.extend_from_slice(content)?;
+    Ok(bytes)
 }
 
 /// A class of 4096 bytes is of the form, and one of a byte more isn't.
