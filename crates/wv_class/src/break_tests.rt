@@ -167,21 +167,23 @@ fn has_locals(frame: &Frame, locals: &[&str]) -> bool {
         })
 }
 
+/// The flags, the name and the descriptor of a method, and the locals that it starts with.
+const STARTS: [(u16, &str, &str, &[&str]); 5] = [
+    (STATIC, "f", "()V", &[]),
+    (STATIC, "f", "(IJ[[LA;)V", &["int", "long", "[[LA;"]),
+    (0, "f", "(ZBCS)V", &["A", "int", "int", "int", "int"]),
+    (
+        0,
+        "<init>",
+        "(FDLa/B;[I)V",
+        &["this", "float", "double", "a/B", "[I"],
+    ),
+    (STATIC, "<init>", "()I", &[]),
+];
+
 #[test]
 fn starts(rt: HostRuntime) -> Result<(), Fail> {
-    let cases: [(u16, &str, &str, &[&str]); 5] = [
-        (STATIC, "f", "()V", &[]),
-        (STATIC, "f", "(IJ[[LA;)V", &["int", "long", "[[LA;"]),
-        (0, "f", "(ZBCS)V", &["A", "int", "int", "int", "int"]),
-        (
-            0,
-            "<init>",
-            "(FDLa/B;[I)V",
-            &["this", "float", "double", "a/B", "[I"],
-        ),
-        (STATIC, "<init>", "()I", &[]),
-    ];
-    for (flags, name, descriptor, locals) in cases {
+    for (flags, name, descriptor, locals) in STARTS {
         let pool = pool_of(rt.alloc(), name, descriptor)?;
         let method = member(rt.alloc(), flags);
         let Some(frame) = start_of(rt.alloc(), &pool, 4, &method)? else {

@@ -101,7 +101,7 @@ fn filled(alloc: Global, entries: usize) -> Result<ClassFile, Fail> {
         class.pool.push(PoolEntry::Utf8(name))?;
     }
     for value in 0..32_768i64 {
-        if class.pool.len() + 1 < entries {
+        if class.pool.len() < entries.saturating_sub(1) {
             class.pool.push(PoolEntry::Long(value))?;
             class.pool.push(PoolEntry::Unusable)?;
         }

@@ -237,115 +237,116 @@ fn fields(rt: HostRuntime) -> Result<(), Fail> {
     )
 }
 
+/// A static method `f()V` with one attribute.
+const METHOD: &[u8] = &[0, 8, 0, 5, 0, 7, 0, 1];
+
+/// A Code attribute with one instruction, return.
+const CODE: &[u8] = &[0, 8, 0, 0, 0, 13, 0, 0, 0, 0, 0, 0, 0, 1, 0xb1, 0, 0, 0, 0];
+
 /// The first method stands at 12, behind the counts of fields and methods: its name at 14, its
 /// descriptor at 16, its first attribute at 20, the content of that at 26.
+const METHODS: &[(&[&[u8]], Answer)] = &[
+    (&[FRONT, NONE, ONE, METHOD, CODE, NONE], Answer::Read),
+    // Neither native nor abstract, and without code; abstract and with code; with two.
+    (
+        &[FRONT, NONE, ONE, &[0, 8, 0, 5, 0, 7, 0, 0], NONE],
+        Answer::Reference(12),
+    ),
+    (
+        &[FRONT, NONE, ONE, &[4, 0, 0, 5, 0, 7, 0, 1], CODE, NONE],
+        Answer::Reference(12),
+    ),
+    (
+        &[
+            FRONT,
+            NONE,
+            ONE,
+            &[0, 8, 0, 5, 0, 7, 0, 2],
+            CODE,
+            CODE,
+            NONE,
+        ],
+        Answer::Reference(12),
+    ),
+    (
+        &[FRONT, NONE, ONE, &[4, 0, 0, 5, 0, 7, 0, 0], NONE],
+        Answer::Read,
+    ),
+    // The name, and the descriptor.
+    (
+        &[FRONT, NONE, ONE, &[4, 0, 0, 17, 0, 7, 0, 0], NONE],
+        Answer::Reference(14),
+    ),
+    (
+        &[FRONT, NONE, ONE, &[4, 0, 0, 5, 0, 6, 0, 0], NONE],
+        Answer::Reference(16),
+    ),
+    // An initializer that isn't static.
+    (
+        &[FRONT, NONE, ONE, &[0, 0, 0, 12, 0, 7, 0, 1], CODE, NONE],
+        Answer::Reference(12),
+    ),
+    (
+        &[FRONT, NONE, ONE, &[0, 8, 0, 12, 0, 7, 0, 1], CODE, NONE],
+        Answer::Read,
+    ),
+    // The second method stands behind the 8 + 19 bytes of the first.
+    (
+        &[FRONT, NONE, &[0, 2], METHOD, CODE, METHOD, CODE, NONE],
+        Answer::Reference(39),
+    ),
+    // Code of no bytes breaks it at its length, 4 behind the sizes.
+    (
+        &[
+            FRONT,
+            NONE,
+            ONE,
+            METHOD,
+            &[0, 8, 0, 0, 0, 12, 0, 0, 0, 0, 0, 0, 0, 0, 0, 0, 0, 0],
+            NONE,
+        ],
+        Answer::Reference(30),
+    ),
+    // A second exception that is no class.
+    (
+        &[
+            FRONT,
+            NONE,
+            ONE,
+            &[4, 0, 0, 5, 0, 7, 0, 1],
+            &[0, 11, 0, 0, 0, 6, 0, 2, 0, 2, 0, 1],
+            NONE,
+        ],
+        Answer::Reference(30),
+    ),
+    // An annotation's class at 28, and that of a parameter at 29.
+    (
+        &[
+            FRONT,
+            NONE,
+            ONE,
+            &[4, 0, 0, 5, 0, 7, 0, 1],
+            &[0, 15, 0, 0, 0, 6, 0, 1, 0, 1, 0, 0],
+            NONE,
+        ],
+        Answer::Reference(28),
+    ),
+    (
+        &[
+            FRONT,
+            NONE,
+            ONE,
+            &[4, 0, 0, 5, 0, 7, 0, 1],
+            &[0, 18, 0, 0, 0, 7, 1, 0, 1, 0, 1, 0, 0],
+            NONE,
+        ],
+        Answer::Reference(29),
+    ),
+];
+
 #[test]
 fn methods(rt: HostRuntime) -> Result<(), Fail> {
-    // A static method f()V with one instruction, return.
-    let f: &[u8] = &[0, 8, 0, 5, 0, 7, 0, 1];
-    let code: &[u8] = &[0, 8, 0, 0, 0, 13, 0, 0, 0, 0, 0, 0, 0, 1, 0xb1, 0, 0, 0, 0];
-    check(
-        &rt,
-        rt.alloc(),
-        &[
-            (&[FRONT, NONE, ONE, f, code, NONE], Answer::Read),
-            // Neither native nor abstract, and without code; abstract and with code; with two.
-            (
-                &[FRONT, NONE, ONE, &[0, 8, 0, 5, 0, 7, 0, 0], NONE],
-                Answer::Reference(12),
-            ),
-            (
-                &[FRONT, NONE, ONE, &[4, 0, 0, 5, 0, 7, 0, 1], code, NONE],
-                Answer::Reference(12),
-            ),
-            (
-                &[
-                    FRONT,
-                    NONE,
-                    ONE,
-                    &[0, 8, 0, 5, 0, 7, 0, 2],
-                    code,
-                    code,
-                    NONE,
-                ],
-                Answer::Reference(12),
-            ),
-            (
-                &[FRONT, NONE, ONE, &[4, 0, 0, 5, 0, 7, 0, 0], NONE],
-                Answer::Read,
-            ),
-            // The name, and the descriptor.
-            (
-                &[FRONT, NONE, ONE, &[4, 0, 0, 17, 0, 7, 0, 0], NONE],
-                Answer::Reference(14),
-            ),
-            (
-                &[FRONT, NONE, ONE, &[4, 0, 0, 5, 0, 6, 0, 0], NONE],
-                Answer::Reference(16),
-            ),
-            // An initializer that isn't static.
-            (
-                &[FRONT, NONE, ONE, &[0, 0, 0, 12, 0, 7, 0, 1], code, NONE],
-                Answer::Reference(12),
-            ),
-            (
-                &[FRONT, NONE, ONE, &[0, 8, 0, 12, 0, 7, 0, 1], code, NONE],
-                Answer::Read,
-            ),
-            // The second method stands behind the 8 + 19 bytes of the first.
-            (
-                &[FRONT, NONE, &[0, 2], f, code, f, code, NONE],
-                Answer::Reference(39),
-            ),
-            // Code of no bytes breaks it at its length, 4 behind the sizes.
-            (
-                &[
-                    FRONT,
-                    NONE,
-                    ONE,
-                    f,
-                    &[0, 8, 0, 0, 0, 12, 0, 0, 0, 0, 0, 0, 0, 0, 0, 0, 0, 0],
-                    NONE,
-                ],
-                Answer::Reference(30),
-            ),
-            // A second exception that is no class.
-            (
-                &[
-                    FRONT,
-                    NONE,
-                    ONE,
-                    &[4, 0, 0, 5, 0, 7, 0, 1],
-                    &[0, 11, 0, 0, 0, 6, 0, 2, 0, 2, 0, 1],
-                    NONE,
-                ],
-                Answer::Reference(30),
-            ),
-            // An annotation's class at 28, and that of a parameter at 29.
-            (
-                &[
-                    FRONT,
-                    NONE,
-                    ONE,
-                    &[4, 0, 0, 5, 0, 7, 0, 1],
-                    &[0, 15, 0, 0, 0, 6, 0, 1, 0, 1, 0, 0],
-                    NONE,
-                ],
-                Answer::Reference(28),
-            ),
-            (
-                &[
-                    FRONT,
-                    NONE,
-                    ONE,
-                    &[4, 0, 0, 5, 0, 7, 0, 1],
-                    &[0, 18, 0, 0, 0, 7, 1, 0, 1, 0, 1, 0, 0],
-                    NONE,
-                ],
-                Answer::Reference(29),
-            ),
-        ],
-    )
+    check(&rt, rt.alloc(), METHODS)
 }
 
 /// The number of an attribute's name isn't asked for, and a fault of the layout comes before every other.
