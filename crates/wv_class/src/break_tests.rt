@@ -189,7 +189,7 @@ fn starts(rt: HostRuntime) -> Result<(), Fail> {
         let Some(frame) = start_of(rt.alloc(), &pool, 4, &method)? else {
             return Err("no start".into());
         };
-        assert!(rt; has_locals(&frame, locals), "{name} {descriptor}");
+        assert!(rt; has_locals(&frame, locals));
         assert!(rt; frame.stack.is_empty());
         assert_eq!(rt;
             frame.this_uninitialized,
