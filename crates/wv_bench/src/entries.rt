@@ -15,6 +15,21 @@ const NAMES: &[u8] = b"\x07\x00\x02\x01\x00\x05app/E\x07\x00\x04\x01\x00\x10java
 /// What stands behind the pool: flags, both classes, and empty lists.
 const REST: &[u8] = &[0, 0x21, 0, 1, 0, 3, 0, 0, 0, 0, 0, 0, 0, 0];
 
+fn letter(digit: u8) -> u8 {
+    b'a'.wrapping_add(digit & 15)
+}
+
+/// Four letters for a number, one for each of its hexadecimal digits.
+fn letters(number: u16) -> [u8; 4] {
+    let [high, low] = number.to_be_bytes();
+    [
+        letter(high >> 4),
+        letter(high),
+        letter(low >> 4),
+        letter(low),
+    ]
+}
+
 /// A class file with so many texts in its pool besides.
 fn class_file(alloc: Global, texts: u16) -> Result<Vec<u8>> {
     let mut bytes = Vec::new(alloc);
@@ -22,9 +37,8 @@ fn class_file(alloc: Global, texts: u16) -> Result<Vec<u8>> {
     bytes.extend_from_slice(&texts.wrapping_add(5).to_be_bytes())?;
     bytes.extend_from_slice(NAMES)?;
     for number in 0..texts {
-        let text = format!(in alloc; "text {number}")?;
-        bytes.extend_from_slice(&[1, 0, text.len() as u8])?;
-        bytes.extend_from_slice(text.as_bytes())?;
+        bytes.extend_from_slice(&[1, 0, 4])?;
+        bytes.extend_from_slice(&letters(number))?;
     }
     bytes.extend_from_slice(REST)?;
     Ok(bytes)
