@@ -590,7 +590,8 @@ fn padded(alloc: Global, content: &[u8]) -> Result<Vec<u8>, AllocError> {
     let empty = assemble(alloc, PADDED)?;
     let front = empty.len().saturating_sub(4);
     let mut bytes = Vec::from_slice(alloc, &empty[..front])?;
-    bytes.extend_from_slice(&(content.len() as u32).to_be_bytes())?;
+    let length = (content.len() as u64).to_be_bytes();
+    bytes.extend_from_slice(&length[4..])?;
     bytes.extend_from_slice(content)?;
     Ok(bytes)
 }
