@@ -3,7 +3,6 @@ use Rattle.std.proofs.Common.{◌≡◌, ℕ, List, [], ◌∷◌, ◌++◌, fla
 use Rattle.std.specs.List.{AllByRecursion}
 use Rattle.serde_json.specs.Data.{Data}
 use Rattle.wv_base.specs.declared.side.Side.{Side}
-use Rattle.wv_json.specs.Object.{IsObjectText}
 use Rattle.wv_mod.specs.declared.fault.Flaw.{Flaw}
 use Rattle.wv_mod.specs.declared.fault.Flaw.TheVariants.{Json, Key, Id, Jars, Predicate}
 use Rattle.wv_mod.specs.declared.manifest.Manifest.{Manifest}
@@ -12,7 +11,7 @@ use Rattle.wv_mod.specs.Dependency.{texts_of, SpellsPredicate}
 use Rattle.wv_mod.specs.Id.{first_bad_id}
 use Rattle.wv_mod.specs.Key.{key_order, IsRight}
 use Rattle.wv_mod.specs.Manifest.{IsManifest}
-use Rattle.wv_mod.specs.Flaw.{IsFirstWithout, HasNoJars, predicate_texts, IsFlaw, IsFlawOf}
+use Rattle.wv_mod.specs.Flaw.{IsFirstWithout, predicate_texts, IsFlaw, IsFlawOf}
 use Rattle.wv_mod.specs.ModInfo.{IsModOf, IsMod}
 use Rattle.wv_mod.proofs.OneMod.{manifest-one, object-one}
 use Rattle.wv_mod.proofs.Stopping.{dependencies-spell}

@@ -1,5 +1,5 @@
 -- A description says one thing of its mod.
-use Rattle.std.proofs.Common.{◌≡◌, ◌↔◌, ℕ, List, [], ◌∷◌, Bool, true, false, IsTrue, Option, Some, None, map, codes, refl, ap, sym, ◌∙◌, subst, inl, inr, arith}
+use Rattle.std.proofs.Common.{◌≡◌, ◌↔◌, ℕ, List, [], ◌∷◌, Bool, true, false, IsTrue, Some, None, map, codes, refl, ap, sym, ◌∙◌, subst, inl, inr, arith}
 use Rattle.std.specs.List.{AllZip}
 use Rattle.serde_json.specs.Data.{Data, string, array, object, Items, no_items, item, Members, no_members, member}
 use Rattle.serde_json.specs.Find.{get}
@@ -20,7 +20,7 @@ use Rattle.wv_mod.specs.Field.{IsRequired, IsOptional}
 use Rattle.wv_mod.specs.Environment.{IsEnvironment, environment_name, IsFor}
 use Rattle.wv_mod.specs.Mixins.{IsMixinObject, IsMixinEntry, AreMixins, IsMixinList}
 use Rattle.wv_mod.specs.Manifest.{IsManifest}
-use Rattle.wv_mod.specs.ModInfo.{SaysAs, IsModOf, IsMod}
+use Rattle.wv_mod.specs.ModInfo.{SaysAs, IsMod}
 use Rattle.wv_mod.proofs.OnePredicate.{one-predicate}
 
 -- a value says one thing, as long as it is of the kind
