@@ -1,5 +1,10 @@
 pub mod Fields
+pub mod Games
 pub mod Keys
 pub mod Mixing
 pub mod Relating
+pub mod Slashing
 pub mod Stopping
+pub mod OnePredicate
+pub mod OneMod
+pub mod OneFlaw

@@ -7,3 +7,7 @@ pub mod Key
 pub mod Dependency
 pub mod Flaw
 pub mod ModInfo
+pub mod Slashes
+pub mod FirstBroken
+pub mod GameInfo
+pub mod GameFlaw

@@ -6,3 +6,12 @@ pub mod Entries
 pub mod Fitting
 pub mod Orders
 pub mod OneAnswer
+pub mod Paths
+pub mod Folders
+pub mod Described
+pub mod Flaws
+pub mod FirstRule
+pub mod OneMods
+pub mod Discovering
+pub mod OneLoading
+pub mod Parts

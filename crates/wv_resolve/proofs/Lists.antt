@@ -1,9 +1,9 @@
 -- Lists that are gone over in turn.
-use Rattle.std.proofs.Common.{◌≡◌, inl, inr, ℕ, ◌+◌, ◌<◌, List, [], ◌∷◌, ◌++◌, length, get_or, take, drop, map, flat_map, Any, AllPairs, Option, Some, None, MatchOption, ap, sym, ◌∙◌, subst, arith, length-append}
+use Rattle.std.proofs.Common.{◌≡◌, inl, inr, ℕ, ◌+◌, ◌<◌, List, [], ◌∷◌, ◌++◌, length, get_or, take, drop, map, flat_map, All, Any, AllPairs, Option, Some, None, MatchOption, ap, sym, ◌∙◌, subst, arith, length-append, length-take}
 use Rattle.std.specs.List.{AllByRecursion}
 use Rattle.std.proofs.lemmas.Bool.{cases_order}
 use Rattle.std.proofs.lemmas.Grind.{flat_map-append}
-use Rattle.std.proofs.lemmas.List.{take_more, take-append-drop, get_or_default, get_or_append_left, append-nil}
+use Rattle.std.proofs.lemmas.List.{take_more, take-append-drop, get_or_default, get_or-take, get_or_append_left, append-nil}
 use Rattle.std.proofs.lemmas.List.Concat.{flat_map-cons}
 
 -- one more of the front
@@ -44,3 +44,10 @@ same-of-pairs {A} R xs pairs i j x y in_i in_j at_i at_j no_xy no_yx = elim (cas
   | inr (inl below) ↦ absurd (no_xy (subst (λ (a : A). R a y) at_i (subst (λ (b : A). R (get_or xs i x) b) (get_or_default xs j x y in_j ∙ at_j) (pairs i j x below in_j))))
   | inr (inr above) ↦ absurd (no_yx (subst (λ (a : A). R a x) at_j (subst (λ (b : A). R (get_or xs j y) b) (get_or_default xs i y x in_i ∙ at_i) (pairs j i y above in_i))))
 ]
+
+-- where each stands so to all later ones, those before a place stand so to the one there
+pub all-before : {A : Type 0} (R : A → A → Type 0) (xs : List A) (i : ℕ) (x : A) → AllPairs R xs → i < length xs → x ≡ get_or xs i x → All (λ y. R y x) (take i xs)
+all-before {A} R xs i x pairs inside at k d below =
+    let early : k < i = omega (arith, length-take i xs) in
+    subst (λ (y : A). R y x) (sym (get_or-take i xs k d early))
+    (subst (R (get_or xs k d)) (get_or_default xs i d x inside ∙ sym at) (pairs k i d early inside))

@@ -3,3 +3,5 @@ pub mod Dependency
 pub mod Refusal
 pub mod Resolution
 pub mod Holding
+pub mod Discovery
+pub mod Finding

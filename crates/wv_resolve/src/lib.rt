@@ -3,6 +3,7 @@
 #![tactic(auto)]
 
 mod check;
+mod discovery;
 mod kind;
 mod laws;
 mod present;
@@ -10,8 +11,14 @@ mod refusal;
 mod resolution;
 mod source;
 
-pub use laws::{one_refusal, one_resolution, resolved_or_refused};
+pub use discovery::load_mods;
+pub use laws::{
+    loaded_or_refused, mod_folder_parts, one_description, one_first_broken, one_loading,
+    one_refusal, one_resolution, resolved_or_refused,
+};
 pub use resolution::resolve;
 
+#[cfg(test)]
+mod discovery_tests;
 #[cfg(test)]
 mod tests;
