@@ -22,7 +22,9 @@ pub mod FolderRead
 pub mod MemberTable
 pub mod FirstFormExamples
 pub mod FormDomain
+pub mod Platform
 pub mod Linking
+pub mod Outside
 pub mod PlainRows
 pub mod Entries
 pub mod PlainMachine
