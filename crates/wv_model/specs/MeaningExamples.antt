@@ -80,7 +80,10 @@ open_main = record { owner = codes "open/Main"; name = codes "main"; descriptor 
 abbrev pub open_f : MemberReference
 open_f = method_f (codes "open/Api")
 
--- a game whose main method calls the latter
+-- a method that calls the latter, and a game whose main method does
+abbrev pub asking_method : Member
+asking_method = method_with (refer invokestatic open_f ∷ insns.Plain return ∷ [])
+
 abbrev pub open_game : List ClassFile
 open_game = main_calling (codes "open/Api") ∷ []
 
