@@ -93,6 +93,7 @@ pub fn outside_examples()
     ensures second_frame { run_plain open_game entry_main 3 (throw_error ∷ []) 4 ≡ record { trace = Outside open_f [] (shown_error 0) ∷ []; finish = Ended (Threw (codes "java/lang/Error")) } }
     ensures hooked_throw { run_hooked open_game [] entry_main 3 (throw_error ∷ []) 4 ≡ record { trace = Outside open_f [] (shown_error 0) ∷ []; finish = Ended (Threw (codes "java/lang/Error")) } }
     ensures heap_full { run_plain open_game entry_main 2 (throw_error ∷ []) 3 ≡ record { trace = Outside open_f [] None ∷ []; finish = Ended HeapFull } }
+    ensures cells_taken { (after (plain_machine open_game) 3 (plain_start entry_main 3 (throw_error ∷ []))).shared.used ≡ 3 }
     ensures main_outside { run_plain [] (Program (codes "open/Main")) 1 (AVoid ∷ []) 2 ≡ record { trace = Outside open_main (ShownReference 0 ∷ []) (Some ShownVoid) ∷ []; finish = Ended Returned } }
     ensures thrown_main { run_plain [] (Program (codes "open/Main")) 3 (throw_error ∷ []) 1 ≡ record { trace = Outside open_main (ShownReference 0 ∷ []) (shown_error 1) ∷ []; finish = Ended (Threw (codes "java/lang/Error")) } }
 {}

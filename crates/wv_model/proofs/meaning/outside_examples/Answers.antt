@@ -45,3 +45,7 @@ returns-clause-main_outside c = refl
 pub returns-clause-thrown_main : goal.returns-clause-thrown_main
 unfolding interfaces throwables
 returns-clause-thrown_main c = refl
+
+pub returns-clause-cells_taken : goal.returns-clause-cells_taken
+unfolding interfaces throwables
+returns-clause-cells_taken c = refl
