@@ -97,13 +97,13 @@ found_effect method class (Some (place, shape)) stack shared =
     if is_static shape then once_begun class (called (At class place) (arguments method.descriptor stack) shared) shared
     else End (Unlinked method.owner) shared
 
--- a call of what no class of the list has is an outside step
+-- a call of a method that is outside, with its arguments
 abbrev pub outside_call : List ClassShape → MemberReference → Option (List Value × List Value) → List Value → Shared → Row form
 outside_call classes method None locals shared = quiet locals Stuck
 outside_call classes method (Some (taken, stack)) locals shared = outside_row classes method taken locals stack shared
 
--- the call of a method of the class with this name: one of the list; or of an interface, where no class's method is
--- found; or of no class that has code
+-- the call of a method by the class of its name, if that is of the list. An interface of the platform is no class, so
+-- nothing is found; of the platform's other classes, of arrays and of open names every method is found, and is outside
 abbrev pub static_row : List ClassShape → MemberReference → Option (ℕ × ClassShape) → List Value → List Value → Shared → Row form
 static_row classes method (Some (class, shape)) locals stack shared =
     quiet locals (found_effect method class (method_named shape method.name method.descriptor) stack shared)
@@ -120,7 +120,7 @@ reference_row classes op reference locals stack shared =
     then static_row classes reference (class_named classes reference.owner) locals stack shared
     else quiet locals Stuck
 
--- the call of an interface's method, which only a start frame has: each of the platform's interfaces has every method
+-- the call of a method of an interface, which only a start frame has: of the platform's every one is found, and is outside
 abbrev pub interface_row : List ClassShape → ℕ → MemberReference → List Value → List Value → Shared → Row form
 interface_row classes op reference locals stack shared =
     if op == invokestatic && names_interface classes reference.owner

@@ -24,7 +24,7 @@ use Rattle.wv_code.specs.Constants.{member_constant, constants_in, all_constants
 use Rattle.wv_code.specs.Laying.{Takes, Stand, Reaches, IsLarge, LeavesFar}
 use Rattle.wv_model.specs.PlainCode.{Role, Game, Mixin, class_name, IsPlainReference}
 use Rattle.wv_model.specs.PlainMethod.{IsPlainBody}
-use Rattle.wv_model.specs.MemberTable.{meaning_of, read_in_target, body_in_target, overwritten}
+use Rattle.wv_weave.specs.Applied.{meaning_of, read_in_target, body_in_target, overwritten}
 use Rattle.wv_pool.specs.Adding.{needs, numbers_of, Lacks, none, named, again, lacked, AreTooMany}
 use Rattle.wv_weave.specs.Overwrite.{IsOverwritten}
 use Rattle.wv_class.specs.Sizes.{HasNoFrames, HasFewInsns, IsSmallMethod, IsSmall}
