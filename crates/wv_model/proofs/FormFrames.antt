@@ -1,4 +1,4 @@
--- The machines of the first form meet the laws on single frames, where each method's code means the same in both.
+-- The machines of the form meet the laws on single frames, where each method's code means the same in both.
 use Rattle.std.proofs.Common.{◌≡◌, ℕ, ◌<◌, ◌⊎◌, List, map, Option, Some, None, refl, sym, ap, ◌∙◌, subst, inr}
 use Rattle.std.specs.Prelude.{slice_get}
 use Rattle.std.proofs.lemmas.Option.{slice_get-map}
@@ -8,7 +8,7 @@ use Rattle.wv_model.specs.Frame.{Frame}
 use Rattle.wv_model.specs.Course.{move, move_of_row, resumed}
 use Rattle.wv_model.specs.FrameRelation.{OneShared, one_shared, Running, IsQuiet, IsMatched, AlikeLater}
 use Rattle.wv_model.specs.FrameLaws.{FrameLaws}
-use Rattle.wv_model.specs.FormDomain.{Value, MethodId, Shared, Ending, Piece, form, form_rules}
+use Rattle.wv_model.specs.FormDomain.{Ref, Value, MethodId, Shared, Ending, Threw, Piece, class_of, form, form_rules}
 use Rattle.wv_model.specs.Linking.{ClassShape}
 use Rattle.wv_model.specs.PlainRows.{row_at}
 use Rattle.wv_model.specs.PlainMachine.{frame_at, plain}
@@ -34,7 +34,7 @@ module _ (classes : List ClassShape) (body : MethodId → List Insn) (script : M
   effect_agrees (Call called arguments left after) shown w method point locals locals' stack =
       (after, tt, refl, (one_shared, (called, at_same_point, (0, at_same_point))))
   effect_agrees (Give value after) shown w method point locals locals' stack = (after, tt, refl, (one_shared, refl))
-  effect_agrees (Raise thrown after) shown w method point locals locals' stack = absurd thrown
+  effect_agrees (Raise thrown after) shown w method point locals locals' stack = (after, tt, refl, (one_shared, refl))
   effect_agrees (Init None after) shown w method point locals locals' stack =
       (after, tt, refl, (one_shared, (0, at_same_point)))
   effect_agrees (Init (Some initializer) after) shown w method point locals locals' stack =
@@ -73,6 +73,9 @@ module _ (classes : List ClassShape) (body : MethodId → List Insn) (script : M
   ends : (w : Shared) (ending : Ending) (h k : Shared) → OneShared w h k → AlikeLater form_relation w h k
   ends w ending _ _ one_shared = (w, tt, one_shared)
 
+  uncaught : (w : Shared) (thrown thrown' : Ref) (h k : Shared) → OneShared w h k → thrown ≡ thrown' → Threw (class_of h.heap thrown) ≡ Threw (class_of k.heap thrown')
+  uncaught w thrown thrown' _ _ one_shared e = ap (λ ref. Threw (class_of w.heap ref)) e
+
   pub form_laws : (factor : ℕ) → 0 < factor → FrameLaws factor form_rules (plain classes body) (hooked classes script) form_relation
   form_laws factor some =
       record {
@@ -85,8 +88,8 @@ module _ (classes : List ClassShape) (body : MethodId → List Insn) (script : M
         runs = runs;
         answered = answered;
         catches = λ w method called thrown thrown' f g h k alike waits throws. tt;
-        leaves = λ w method called thrown thrown' f g h k alike waits throws none. absurd thrown;
+        leaves = λ w method called thrown thrown' f g h k alike waits throws none. (w, tt, alike, throws);
         ends = ends;
         last_alike = λ w method value value' h k alike gives. refl;
-        uncaught_alike = λ w thrown thrown' h k alike throws. absurd thrown;
+        uncaught_alike = uncaught;
       }

@@ -1,11 +1,11 @@
 -- Where the plain machine isn't stuck, the hook machine isn't.
-use Rattle.std.proofs.Common.{◌≡◌, ℕ, ◌⊎◌, List, refl, subst, arith, inl, inr}
+use Rattle.std.proofs.Common.{◌≡◌, ℕ, ◌⊎◌, List, Option, Some, None, refl, subst, arith, inl, inr}
 use Rattle.wv_model.specs.Control.{Control}
 use Rattle.wv_model.specs.Corresponds.{steps_for_one}
-use Rattle.wv_model.specs.Course.{Course, Goes, Sticks, move}
+use Rattle.wv_model.specs.Course.{Course, Goes, Sticks, caught, move}
 use Rattle.wv_model.specs.FirstMeaning.{form_relation, FormRel}
-use Rattle.wv_model.specs.FormDomain.{MethodId, Shared, form, form_rules}
-use Rattle.wv_model.specs.Frame.{Frame}
+use Rattle.wv_model.specs.FormDomain.{Ref, MethodId, Shared, form, form_rules}
+use Rattle.wv_model.specs.Frame.{Frame, cleared}
 use Rattle.wv_model.specs.FrameLaws.{FrameLaws}
 use Rattle.wv_model.specs.FrameRelation.{OneShared, IsQuiet, IsMatched, Agree, GoesQuietly}
 use Rattle.wv_model.specs.HookMachine.{Point}
@@ -25,6 +25,10 @@ never_quiet : (w : Shared) (method : MethodId) (n : ℕ) (c : Course form ℕ) (
 never_quiet w method n (Goes f h) g k e quiet = omega (arith, e, quiet.1.1)
 never_quiet w method n _ g k e quiet = quiet
 
+caught_goes : (control : Control form Point) (o : Option (Frame form Point)) (frame : Frame form Point) (thrown : Ref) (shared : Shared) → caught control frame o thrown shared ≡ Sticks → ⊥
+caught_goes control (Some handler) frame thrown shared e = absurd cc
+caught_goes control None frame thrown shared e = absurd cc
+
 module _ (first : Control form ℕ) (second : Control form Point) (law : FrameLaws steps_for_one form_rules first second form_relation) where
   top_sticks : (w : Shared) (method : MethodId) (n : ℕ) (f : Frame form ℕ) (g : Frame form Point) (h k : Shared) → n ≡ 0 → IsQuiet form_relation w method n (move first f h) g k ⊎ IsMatched form_relation w method (move first f h) (move second g k) → (move second g k).course ≡ Sticks → (move first f h).course ≡ Sticks
   top_sticks w method n f g h k e (inl quiet) stuck = absurd (never_quiet quiet.0 method n _ g k e quiet.3)
@@ -33,7 +37,8 @@ module _ (first : Control form ℕ) (second : Control form Point) (law : FrameLa
   frames_stick : (w : Shared) (n : ℕ) (fs : List (Frame form ℕ)) (gs : List (Frame form Point)) (h k : Shared) → OneShared w h k → RelatedFrames form_relation w n fs gs → FramesStick second gs k → FramesStick first fs h
   frames_stick w n _ _ h k alike (running {method} {f} {g} runs waiting) stuck =
       top_sticks w method n f g h k (none_ahead w method n f g runs) (law.runs w method n f g h k alike runs) stuck
-  frames_stick w _ _ _ h k alike (throwing {thrown} waits throws waiting) stuck = absurd thrown
+  frames_stick w _ _ _ h k alike (throwing {thrown'} {g} waits throws waiting) stuck =
+      absurd (caught_goes second (second.catch thrown' k (cleared g)) (cleared g) thrown' k stuck)
 
   state_sticks : (n : ℕ) (s : State form ℕ) (t : State form Point) → GoOn form_relation n s t ⊎ HaveEnded n s t → IsStuck second t → IsStuck first s
   state_sticks n s t (inl both) stuck =

@@ -1,5 +1,6 @@
--- What the written class of the first form means: it corresponds to the game class under its mixin. Our own.
+-- What the written classes of the form mean: they correspond to the unwoven classes under their mixins. Our own.
 use Rattle.std.specs.Prelude.{◌≡◌, ℕ, List}
+use Rattle.std.specs.List.{AllByRecursion, AllZip}
 use Rattle.wv_base.specs.declared.class_file.ClassFile.{ClassFile}
 use Rattle.wv_model.specs.Corresponds.{Corresponds}
 use Rattle.wv_model.specs.Frame.{Frame}
@@ -9,13 +10,19 @@ use Rattle.wv_model.specs.Simulates.{Numbered}
 use Rattle.wv_model.specs.Step.{State}
 use Rattle.wv_model.specs.FormDomain.{Value, MethodId, Shared, Answer, form}
 use Rattle.wv_model.specs.Entries.{Entry}
+use Rattle.wv_model.specs.MemberTable.{Applied, Becomes, HasOneMethod}
 use Rattle.wv_model.specs.PlainMachine.{frame_at, plain_machine, plain_start}
 use Rattle.wv_model.specs.HookMachine.{Point, insn_at, hook_machine, hook_start}
 
--- these classes do what the game class does under the mixin, for every entry, bound on cells and list of answers
-abbrev pub MeansHooked : ClassFile → ClassFile → List ClassFile → Type 0
-MeansHooked game mixin classes =
-    (entry : Entry) (most : ℕ) (answers : List Answer) → Corresponds (plain_machine classes) (plain_start entry most answers) (hook_machine game mixin) (hook_start entry most answers)
+-- written classes do what the unwoven ones do under the mixins, for every entry, bound on cells and list of answers
+abbrev pub MeansHooked : List ClassFile → List Applied → List ClassFile → Type 0
+MeansHooked classes mixins written =
+    (entry : Entry) (most : ℕ) (answers : List Answer) → Corresponds (plain_machine written) (plain_start entry most answers) (hook_machine classes mixins) (hook_start entry most answers)
+
+-- classes, mixins of one method each, and what the classes become under them
+pub record AreWritten (classes : List ClassFile) (mixins : List Applied) (written : List ClassFile) : Type 0 where
+  pub single : AllByRecursion (λ mixin. HasOneMethod mixin.methods) mixins
+  pub each : AllZip (Becomes mixins) classes written
 
 -- two frames of a method whose next instruction is the same one, with the same locals and stack; the number is 0, since
 -- each step of the written class stands for one of the hook machine
@@ -32,7 +39,7 @@ form_relation =
       Runs = AtSamePoint;
       Waits = λ shared method called f g. AtSamePoint shared method 0 f g;
       Given = λ shared method value value'. value ≡ value';
-      Thrown = λ shared thrown thrown'. Unit {0};
+      Thrown = λ shared thrown thrown'. thrown ≡ thrown';
     }
 
 -- the relation of states, with the number of steps that the written class may take ahead of the hook machine's next

@@ -1,4 +1,4 @@
--- The hook machine: what the unwoven game class does under its mixin. It moves no code and writes none. Our own.
+-- The hook machine: what unwoven classes do under their mixins. It moves no code and writes none. Our own.
 use Rattle.std.specs.Prelude.{ℕ, suc, zero, ◌&&◌, Bool, List, [], ◌∷◌, map, bytes_eq, Option, Some, None, unwrap_or, slice_get, option_map}
 use Rattle.std.specs.List.{find}
 use Rattle.wv_base.specs.declared.class_file.ClassFile.{ClassFile}
@@ -10,17 +10,21 @@ use Rattle.wv_model.specs.Step.{State, machine, start}
 use Rattle.wv_model.specs.FormDomain.{MethodId, Start, At, Piece, Ending, Answer, form, form_rules}
 use Rattle.wv_model.specs.Linking.{ClassShape, MethodShape, method_shape}
 use Rattle.wv_model.specs.PlainRows.{row_at}
-use Rattle.wv_model.specs.PlainCode.{Role, Game, Mixin}
 use Rattle.wv_model.specs.PlainMachine.{item, code_of, answered_stack, frame_at}
 use Rattle.wv_model.specs.Entries.{Entry, entry_method, entry_arguments, entry_shared, start_code}
-use Rattle.wv_model.specs.MemberTable.{read_in_target}
+use Rattle.wv_model.specs.MemberTable.{Applied, mixin_of, read_in_target}
 
--- code as it was read, with the class that it is of
+-- whose code it is: the class's own, or that of the mixin with this name, read in its target
+pub data Origin : Type 0 where
+  Own : Origin
+  OfMixin : (mixin target : List ℕ) → Origin
+
+-- code as it was read, with its origin
 pub record Script : Type 0 where
-  pub origin : Role
+  pub origin : Origin
   pub code : List Insn
 
--- a member of the game class under the mixin: what it looks like from outside, and its code
+-- a member of a class under its mixin: what it looks like from outside, and its code
 pub record TableMember : Type 0 where
   pub shape : MethodShape
   pub script : Script
@@ -29,37 +33,46 @@ pub record TableMember : Type 0 where
 abbrev pub is_same : Member → Member → Bool
 is_same first second = bytes_eq first.name second.name && bytes_eq first.descriptor second.descriptor
 
--- the code at the place of a method of the game: the mixin's, where it overwrites the method, or the game's own
--- (Mixin 0.8.5, @Overwrite)
-abbrev pub script_for : Member → Option Member → Script
-script_for method None = record { origin = Game; code = code_of method }
-script_for method (Some overwriting) = record { origin = Mixin; code = code_of overwriting }
+-- code of a class's own
+abbrev pub own_script : List Insn → Script
+own_script code = record { origin = Own; code = code }
 
-abbrev pub table_member : List Member → Member → TableMember
-table_member overwrites method =
-    record { shape = method_shape method; script = script_for method (find (is_same method) overwrites) }
+-- the code at the place of a method: that of the mixin's method which overwrites it, or its own (Mixin 0.8.5,
+-- @Overwrite)
+abbrev pub overwriting_script : Applied → Member → Option Member → Script
+overwriting_script mixin method None = own_script (code_of method)
+overwriting_script mixin method (Some overwriting) =
+    record { origin = OfMixin mixin.name mixin.target; code = code_of overwriting }
 
--- the members of the game class under the mixin: those of the game, in their order
-abbrev pub member_table : ClassFile → ClassFile → List TableMember
-member_table game mixin = map (table_member mixin.methods) game.methods
+abbrev pub script_for : Option Applied → Member → Script
+script_for None method = own_script (code_of method)
+script_for (Some mixin) method = overwriting_script mixin method (find (is_same method) mixin.methods)
 
--- the game class as it is seen from outside
-abbrev pub hooked_shape : ClassFile → ClassFile → ClassShape
-hooked_shape game mixin =
-    record { name = game.name; methods = map (λ member. member.shape) (member_table game mixin) }
+abbrev pub table_member : Option Applied → Member → TableMember
+table_member mixin method = record { shape = method_shape method; script = script_for mixin method }
 
--- nothing of no class
-abbrev pub no_script : Script
-no_script = record { origin = Game; code = [] }
+-- the members of a class under its mixin, if it has one: those of the class, in their order
+abbrev pub member_table : List Applied → ClassFile → List TableMember
+member_table mixins class = map (table_member (mixin_of mixins class)) class.methods
 
--- the code of a method, given that of each method of each class
-abbrev pub script_in : List (List Script) → MethodId → Script
-script_in scripts (Start method) = record { origin = Game; code = start_code method }
-script_in scripts (At class place) = unwrap_or (slice_get (item scripts class) place) no_script
+-- a class as it is seen from outside
+abbrev pub hooked_shape : List Applied → ClassFile → ClassShape
+hooked_shape mixins class =
+    record { name = class.name; methods = map (λ member. member.shape) (member_table mixins class) }
 
--- the code of a method of the game class under the mixin
-abbrev pub script_of : ClassFile → ClassFile → MethodId → Script
-script_of game mixin method = script_in (map (λ member. member.script) (member_table game mixin) ∷ []) method
+-- the code of the members of a class
+abbrev pub class_scripts : List Applied → ClassFile → List Script
+class_scripts mixins class = map (λ member. member.script) (member_table mixins class)
+
+-- the code of a method, given the classes from outside and the code of each method of each
+abbrev pub script_in : List ClassShape → List (List Script) → MethodId → Script
+script_in classes scripts (Start method) = own_script (start_code classes method)
+script_in classes scripts (At class place) = unwrap_or (slice_get (item scripts class) place) (own_script [])
+
+-- the code of a method of these classes under the mixins
+abbrev pub script_of : List ClassFile → List Applied → MethodId → Script
+script_of classes mixins method =
+    script_in (map (hooked_shape mixins) classes) (map (class_scripts mixins) classes) method
 
 -- a point of a method: its entry, or before, at or after an instruction
 pub data Point : Type 0 where
@@ -75,10 +88,10 @@ insn_at (Before i) = i
 insn_at (Here i) = i
 insn_at (After i) = suc i
 
--- what an instruction means: a class's name in the mixin's code is read as it is run, and the game's means itself
-abbrev pub meant : Role → Insn → Insn
-meant Game insn = insn
-meant Mixin insn = read_in_target insn
+-- what an instruction means: a class's name in a mixin's code is read as it is run, and in own code it means itself
+abbrev pub meant : Origin → Insn → Insn
+meant Own insn = insn
+meant (OfMixin mixin target) insn = read_in_target mixin target insn
 
 -- the instruction that runs at a point
 abbrev pub running : Script → Point → Option Insn
@@ -98,12 +111,12 @@ hooked classes script =
       ended = λ ending shared. shared;
     }
 
--- the hook machine of a game class and its mixin
-abbrev pub hook_control : ClassFile → ClassFile → Control form Point
-hook_control game mixin = hooked (hooked_shape game mixin ∷ []) (script_of game mixin)
+-- the hook machine of classes, of which none is a class mixin, and the mixins that are applied to them
+abbrev pub hook_control : List ClassFile → List Applied → Control form Point
+hook_control classes mixins = hooked (map (hooked_shape mixins) classes) (script_of classes mixins)
 
-abbrev pub hook_machine : ClassFile → ClassFile → Machine (State form Point) Piece Ending
-hook_machine game mixin = machine form_rules (hook_control game mixin)
+abbrev pub hook_machine : List ClassFile → List Applied → Machine (State form Point) Piece Ending
+hook_machine classes mixins = machine form_rules (hook_control classes mixins)
 
 -- its first state for an entry, with so many cells and these answers
 abbrev pub hook_start : Entry → ℕ → List Answer → State form Point
@@ -111,5 +124,5 @@ hook_start entry most answers =
     start (frame_at (Start (entry_method entry)) Entering [] (entry_arguments entry)) (entry_shared entry most answers)
 
 -- the run of at most n steps
-abbrev pub run_hooked : ClassFile → ClassFile → Entry → ℕ → List Answer → ℕ → Run Piece Ending
-run_hooked game mixin entry most answers n = run (hook_machine game mixin) n (hook_start entry most answers)
+abbrev pub run_hooked : List ClassFile → List Applied → Entry → ℕ → List Answer → ℕ → Run Piece Ending
+run_hooked classes mixins entry most answers n = run (hook_machine classes mixins) n (hook_start entry most answers)

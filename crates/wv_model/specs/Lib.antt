@@ -17,11 +17,14 @@ pub mod Threads
 pub mod PlainCode
 pub mod PlainTyping
 pub mod PlainMethod
+pub mod FirstBroken
 pub mod FolderRead
 pub mod MemberTable
 pub mod FirstFormExamples
 pub mod FormDomain
+pub mod Platform
 pub mod Linking
+pub mod Outside
 pub mod PlainRows
 pub mod Entries
 pub mod PlainMachine

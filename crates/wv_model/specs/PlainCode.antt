@@ -40,26 +40,41 @@ IsOwner Mixin own owner = (owner ≡ class_name Game) ⊎ (owner ≡ own)
 abbrev pub IsOrdinary : List ℕ → Type 0
 IsOrdinary name = (name ≢ codes "<init>") × (name ≢ codes "<clinit>")
 
--- a method `()V` of these classes, by its reference alone: whether the class has it isn't asked
-pub record IsOwnMethod (role : Role) (own : List ℕ) (method : MemberReference) : Type 0 where
-  pub owner : IsOwner role own method.owner
+-- any class, of the folder, of the platform or of neither
+abbrev pub AnyClass : List ℕ → Type 0
+AnyClass owner = Unit {0}
+
+-- a method `()V` of such a class, by its reference alone: whether the class has it isn't asked
+pub record IsMethodOf (IsOwner : List ℕ → Type 0) (method : MemberReference) : Type 0 where
+  pub owner : IsOwner method.owner
   pub ordinary : IsOrdinary method.name
   pub descriptor : method.descriptor ≡ codes "()V"
 
--- what a plain instruction with this opcode may refer to
-abbrev pub IsPlainReference : Role → List ℕ → ℕ → MemberReference → Type 0
-IsPlainReference role own op reference =
+-- what a plain instruction with this opcode may refer to, where methods of such classes are called
+abbrev pub IsReferenceCalling : (List ℕ → Type 0) → ℕ → MemberReference → Type 0
+IsReferenceCalling IsOwner op reference =
     ((op ≡ getstatic) × (reference ≡ system_out))
     ⊎ ((op ≡ invokevirtual) × (reference ≡ println))
-    ⊎ ((op ≡ invokestatic) × IsOwnMethod role own reference)
+    ⊎ ((op ≡ invokestatic) × IsMethodOf IsOwner reference)
 
--- the instructions of plain code in a class of the role, with its own name
+-- the instructions of plain code that calls methods of such classes
+abbrev pub IsInsnCalling : (List ℕ → Type 0) → Insn → Type 0
+IsInsnCalling IsOwner (insns.Plain op) = IsPlainOpcode op
+IsInsnCalling IsOwner (insns.Push op value) = (op ≡ bipush) × FitsSigned w8 value
+IsInsnCalling IsOwner (insns.Reference op owner name descriptor interface) =
+    (interface ≡ false)
+    × IsReferenceCalling IsOwner op (record { owner = owner; name = name; descriptor = descriptor })
+IsInsnCalling IsOwner _ = ⊥
+
+-- the same for a class of the role, with its own name
+abbrev pub IsOwnMethod : Role → List ℕ → MemberReference → Type 0
+IsOwnMethod role own method = IsMethodOf (IsOwner role own) method
+
+abbrev pub IsPlainReference : Role → List ℕ → ℕ → MemberReference → Type 0
+IsPlainReference role own op reference = IsReferenceCalling (IsOwner role own) op reference
+
 abbrev pub IsPlainInsn : Role → List ℕ → Insn → Type 0
-IsPlainInsn role own (insns.Plain op) = IsPlainOpcode op
-IsPlainInsn role own (insns.Push op value) = (op ≡ bipush) × FitsSigned w8 value
-IsPlainInsn role own (insns.Reference op owner name descriptor interface) =
-    (interface ≡ false) × IsPlainReference role own op (record { owner = owner; name = name; descriptor = descriptor })
-IsPlainInsn role own _ = ⊥
+IsPlainInsn role own insn = IsInsnCalling (IsOwner role own) insn
 
 -- `return` ends the code, and stands nowhere else in it
 pub record EndsWithReturn (code : List Insn) : Type 0 where

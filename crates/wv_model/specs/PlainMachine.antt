@@ -1,4 +1,4 @@
--- The plain machine: what a list of plain classes does (JVM Specification 2.6, 2.11.8 and chapter 6).
+-- The plain machine: what a list of plain classes does (JVM Specification 2.6, 2.10, 2.11.8 and chapter 6).
 use Rattle.std.specs.Prelude.{ℕ, zero, suc, List, [], ◌∷◌, map, Option, Some, None, unwrap_or, slice_get, option_map}
 use Rattle.wv_base.specs.declared.class_file.ClassFile.{ClassFile}
 use Rattle.wv_base.specs.declared.class_file.Member.{Member}
@@ -23,14 +23,14 @@ shape_of class = record { name = class.name; methods = map method_shape class.me
 abbrev pub code_of : Member → List Insn
 code_of method = unwrap_or (option_map (λ body. body.insns) method.body) []
 
--- the code of a method, given that of each method of each class
-abbrev pub code_in : List (List (List Insn)) → MethodId → List Insn
-code_in code (Start method) = start_code method
-code_in code (At class place) = item (item code class) place
+-- the code of a method, given the classes from outside and the code of each method of each
+abbrev pub code_in : List ClassShape → List (List (List Insn)) → MethodId → List Insn
+code_in classes code (Start method) = start_code classes method
+code_in classes code (At class place) = item (item code class) place
 
 -- the code of a method of these classes
 abbrev pub body_of : List ClassFile → MethodId → List Insn
-body_of classes method = code_in (map (λ class. map code_of class.methods) classes) method
+body_of classes method = code_in (map shape_of classes) (map (λ class. map code_of class.methods) classes) method
 
 -- the stack on which what a method gives is put
 abbrev pub answered_stack : Option Value → List Value → List Value

@@ -1,5 +1,5 @@
 -- The rows of the fourteen instructions of plain code, which both machines share (JVM Specification 6.5).
-use Rattle.std.specs.Prelude.{ℕ, ℤ, pos, ◌-◌, ◌==◌, nat_le, Bool, false, ◌&&◌, if◌then◌else◌, List, [], ◌∷◌, ◌++◌, map, codes, bytes_eq, Option, Some, None}
+use Rattle.std.specs.Prelude.{ℕ, ℤ, pos, ◌-◌, ◌==◌, nat_le, Bool, true, false, ◌&&◌, if◌then◌else◌, List, [], ◌∷◌, ◌++◌, map, codes, bytes_eq, Option, Some, None}
 use Rattle.std.specs.Fmt.{signed_decimal}
 use Rattle.std.specs.Int.{w32, int_wrapping_add, int_wrapping_mul}
 use Rattle.std.specs.List.{list_any}
@@ -9,7 +9,9 @@ use Rattle.wv_base.specs.declared.insn.Insn.TheVariants as insns
 use Rattle.wv_base.specs.Opcodes.{iconst_0, iconst_5, bipush, pop, iadd, imul, return, getstatic, invokevirtual, invokestatic}
 use Rattle.wv_model.specs.Effect.{Effect, Next, Call, Give, Init, End, Stuck, Row}
 use Rattle.wv_model.specs.FormDomain.{Value, Int, Reference, SystemOut, MethodId, At, Shared, Byte, Unlinked, form}
-use Rattle.wv_model.specs.Linking.{ClassShape, MethodShape, class_named, method_named, is_static}
+use Rattle.wv_model.specs.Linking.{ClassShape, MethodShape, class_named, method_named, names_interface, is_static}
+use Rattle.wv_model.specs.Outside.{outside_row}
+use Rattle.wv_model.specs.Platform.{is_platform_interface}
 use Rattle.wv_model.specs.PlainCode.{system_out, println}
 
 -- the row of an instruction that shows nothing; no instruction of plain code changes a local
@@ -95,11 +97,19 @@ found_effect method class (Some (place, shape)) stack shared =
     if is_static shape then once_begun class (called (At class place) (arguments method.descriptor stack) shared) shared
     else End (Unlinked method.owner) shared
 
--- the call of a method of the class that was found; plain code names no class outside the folder here
-abbrev pub static_effect : MemberReference → Option (ℕ × ClassShape) → List Value → Shared → Effect form
-static_effect method None stack shared = Stuck
-static_effect method (Some (class, shape)) stack shared =
-    found_effect method class (method_named shape method.name method.descriptor) stack shared
+-- a call of a method that is outside, with its arguments
+abbrev pub outside_call : List ClassShape → MemberReference → Option (List Value × List Value) → List Value → Shared → Row form
+outside_call classes method None locals shared = quiet locals Stuck
+outside_call classes method (Some (taken, stack)) locals shared = outside_row classes method taken locals stack shared
+
+-- the call of a method by the class of its name, if that is of the list. An interface of the platform is no class, so
+-- nothing is found; of the platform's other classes, of arrays and of open names every method is found, and is outside
+abbrev pub static_row : List ClassShape → MemberReference → Option (ℕ × ClassShape) → List Value → List Value → Shared → Row form
+static_row classes method (Some (class, shape)) locals stack shared =
+    quiet locals (found_effect method class (method_named shape method.name method.descriptor) stack shared)
+static_row classes method None locals stack shared =
+    if is_platform_interface method.owner then quiet locals (End (Unlinked method.owner) shared)
+    else outside_call classes method (arguments method.descriptor stack) locals shared
 
 -- the instructions with a reference to a field or to a method of a class
 abbrev pub reference_row : List ClassShape → ℕ → MemberReference → List Value → List Value → Shared → Row form
@@ -107,7 +117,14 @@ reference_row classes op reference locals stack shared =
     if op == getstatic then quiet locals (field_effect reference stack shared)
     else if op == invokevirtual then virtual_row reference locals stack shared
     else if op == invokestatic
-    then quiet locals (static_effect reference (class_named classes reference.owner) stack shared)
+    then static_row classes reference (class_named classes reference.owner) locals stack shared
+    else quiet locals Stuck
+
+-- the call of a method of an interface, which only a start frame has: of the platform's every one is found, and is outside
+abbrev pub interface_row : List ClassShape → ℕ → MemberReference → List Value → List Value → Shared → Row form
+interface_row classes op reference locals stack shared =
+    if op == invokestatic && names_interface classes reference.owner
+    then outside_call classes reference (arguments reference.descriptor stack) locals shared
     else quiet locals Stuck
 
 -- the row of an instruction, over these classes; an instruction that isn't plain has none
@@ -116,6 +133,8 @@ insn_row classes (insns.Plain op) locals stack shared = quiet locals (plain_effe
 insn_row classes (insns.Push op value) locals stack shared = quiet locals (push_effect op value stack shared)
 insn_row classes (insns.Reference op owner name descriptor false) locals stack shared =
     reference_row classes op (record { owner = owner; name = name; descriptor = descriptor }) locals stack shared
+insn_row classes (insns.Reference op owner name descriptor true) locals stack shared =
+    interface_row classes op (record { owner = owner; name = name; descriptor = descriptor }) locals stack shared
 insn_row classes _ locals stack shared = quiet locals Stuck
 
 -- the row at a place of code, if there is an instruction

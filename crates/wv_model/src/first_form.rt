@@ -12,7 +12,7 @@ pub fn first_form_examples()
     ensures typed { HasTyping 8 print_seven }
     ensures typed_within { HasTyping 2 print_seven }
     ensures untyped { HasTyping 1 print_seven → ⊥ }
-    ensures own_call { read_in_target call_of_mixin ≡ call_of_game }
+    ensures own_call { read_in_target (codes "alpha/mixin/MainMixin") (codes "app/Main") call_of_mixin ≡ call_of_game }
     ensures class_read { IsTrue (is_read (codes "game/app/Main.class")) }
     ensures json_read { IsTrue (is_read (codes "mods/alpha/fabric.mod.json")) }
     ensures module_unread { IsFalse (is_read (codes "game/module-info.class")) }

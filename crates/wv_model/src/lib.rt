@@ -18,7 +18,10 @@ mod typing;
 pub use first_form::first_form_examples;
 pub use frames::{FrameSimulation, starts_correspond, states_simulate, turns_agree};
 pub use machine::{Growing, longer_run_keeps};
-pub use meaning::{first_form_corresponds, first_form_steps, form_never_stuck, meaning_examples};
+pub use meaning::{
+    form_never_stuck, meaning_examples, outside_examples, overwrites_correspond, overwrites_step,
+    two_classes_examples,
+};
 pub use schedules::{ThreadFrames, ThreadSimulation, schedules_correspond, threads_correspond};
 pub use simulation::{Simulation, correspond, ends_alike, keeps_pace};
 pub use step::{Framed, frames_stay_within_limit, steps_only_add};

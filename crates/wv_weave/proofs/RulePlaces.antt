@@ -185,7 +185,7 @@ one_method : (methods : List Member) → length methods ≡ 1 → (method : Memb
 one_method [] one = absurd (omega arith)
 one_method (m ∷ methods) one = (m, (0, omega arith, refl))
 
-module _ (folder : List File) (game mixin : ClassFile) (has_game : HasClass folder Game game) (has_mixin : HasClass folder Mixin mixin) (single : HasOneMethod mixin) where
+module _ (folder : List File) (game mixin : ClassFile) (has_game : HasClass folder Game game) (has_mixin : HasClass folder Mixin mixin) (single : HasOneMethod mixin.methods) where
   same_class : (role : Role) (class other : ClassFile) → HasClass folder role class → HasClass folder role other → other ≡ class
   same_class role class other (content, present, spells) (found, there, also) =
       one_class content other class (subst (λ c. Spells c other) (same_content (content_of (class_path role) folder) found content there present) also) spells

@@ -104,7 +104,7 @@ module _ (folder : List File) (form : Holds (BreaksForm Unlimited folder)) (game
   merged : (result : Answer) → ClassRefusal game mixin None → Merges game mixin result → IsAnswer folder result
   merged (Ok woven) (none versions own also) m = (
     (form, (classes_hold, (versions_hold versions.0 versions.1, (names_hold own also, (none_lacks folder game mixin (read.0, read.1, read.2.0) (other.0, other.1, other.2.0) other.2.1.1.of_role m.1, tt))))),
-    record { game = game; has_game = (read.0, read.1, read.2.0); thin_game = read.2.1.1; mixin = mixin; has_mixin = (other.0, other.1, other.2.0); thin_mixin = other.2.1.1; written = m.0 },
+    record { game = game; has_game = (read.0, read.1, read.2.0); thin_game = read.2.1.1; named = own; mixin = mixin; has_mixin = (other.0, other.1, other.2.0); thin_mixin = other.2.1.1; written = m.0 },
   )
   merged (Err (faults.Broken broken)) (none versions own also) m =
       behind form (behind classes_hold (behind (versions_hold versions.0 versions.1) (behind (names_hold own also) (here (missing_first folder game mixin (read.0, read.1, read.2.0) (other.0, other.1, other.2.0) other.2.1.1.of_role broken m)))))

@@ -23,7 +23,7 @@ use Rattle.wv_code.specs.Formed.{IsFormed}
 use Rattle.wv_code.specs.FormedBody.{IsFormedBody}
 use Rattle.wv_model.specs.PlainCode.{Role, Game, Mixin, class_name, IsPlainOpcode, IsPlainReference, IsPlainInsn}
 use Rattle.wv_model.specs.PlainMethod.{IsPlainBody, IsPlainMethod}
-use Rattle.wv_model.specs.MemberTable.{meaning_of, read_in_target, body_in_target, overwritten}
+use Rattle.wv_weave.specs.Applied.{meaning_of, read_in_target, body_in_target, overwritten}
 use Rattle.wv_pool.specs.Allowed.{IsClassText, IsAllowed}
 use Rattle.wv_pool.proofs.Behind.{some_is}
 use Rattle.wv_weave.specs.Overwrite.{IsOverwritten}

@@ -22,9 +22,9 @@ use Rattle.wv_class.specs.Limits.{member_attributes, class_attributes, one_if, H
 use Rattle.wv_class.specs.Needs.{parts_of, code_constants, member_needs, members_need, head_constants, annotations_need, class_needs}
 use Rattle.wv_code.specs.Constants.{member_constant, constants_in, all_constants}
 use Rattle.wv_code.specs.Laying.{Takes, Stand, Reaches, IsLarge, LeavesFar}
-use Rattle.wv_model.specs.PlainCode.{Role, Game, Mixin, class_name, IsPlainReference}
+use Rattle.wv_model.specs.PlainCode.{Role, Game, Mixin, class_name, IsReferenceCalling}
 use Rattle.wv_model.specs.PlainMethod.{IsPlainBody}
-use Rattle.wv_model.specs.MemberTable.{meaning_of, read_in_target, body_in_target, overwritten}
+use Rattle.wv_weave.specs.Applied.{meaning_of, read_in_target, body_in_target, overwritten}
 use Rattle.wv_pool.specs.Adding.{needs, numbers_of, Lacks, none, named, again, lacked, AreTooMany}
 use Rattle.wv_weave.specs.Overwrite.{IsOverwritten}
 use Rattle.wv_class.specs.Sizes.{HasNoFrames, HasFewInsns, IsSmallMethod, IsSmall}
@@ -174,7 +174,7 @@ insn_takes pool at bytes (push {op = op} is fits) (long, widens, takes) = go (op
     go false e = omega (arith, e)
 insn_takes pool at bytes (reference {op = op} member is) (long, widens, takes) = go op (is_member is) takes
   where
-    is_member : {role : Role} {own : List ℕ} {m : MemberReference} → IsPlainReference role own op m → op ≤ 184
+    is_member : {IsCalled : List ℕ → Type 0} {m : MemberReference} → IsReferenceCalling IsCalled op m → op ≤ 184
     is_member (inl h) = omega (arith, h.0)
     is_member (inr (inl h)) = omega (arith, h.0)
     is_member (inr (inr h)) = omega (arith, h.0)

@@ -18,8 +18,10 @@ use Rattle.wv_code.specs.Meaning.{widened}
 use Rattle.wv_model.specs.PlainCode.{Role, Game, Mixin, class_name, IsPlainReference, IsPlainInsn, EndsWithReturn}
 use Rattle.wv_model.specs.PlainTyping.{Stack, Row, iconst, push as pushed, arithmetic, dropped, returned, read_out, printed, called, Leads}
 use Rattle.wv_model.specs.PlainMethod.{AreSame, IsPlainBody, IsPlainMethod, IsGameMethod}
-use Rattle.wv_model.specs.MemberTable.{read_in_target, body_in_target, overwritten, IsMember, replaced, unchanged}
+use Rattle.wv_model.specs.MemberTable as model
+use Rattle.wv_model.specs.MemberTable.{Applied, IsMember, replaced, unchanged}
 use Rattle.wv_pool.proofs.Behind.{some_is}
+use Rattle.wv_weave.specs.Applied.{applied, read_in_target, body_in_target, overwritten}
 use Rattle.wv_weave.specs.Overwrite.{IsOverwritten}
 use Rattle.wv_weave.specs.WovenFiles.{written_version, written_path, IsWritten}
 use Rattle.wv_weave.proofs.WovenForm.{all_weaker, all_set, all_at, IsSimple, plain, push, reference, all_simple, some_body, insns_read, game_formed, plain_methods, origin_plain}
@@ -146,7 +148,7 @@ none_later method methods distinct k other at same = distinct 0 (suc k) method o
 behind : (method : Member) (methods : List Member) → AreDistinct (method ∷ methods) → AreDistinct methods
 behind method methods distinct j k one other less = distinct (suc j) (suc k) one other (omega (arith, less))
 
-module _ (mixin : ClassFile) (origin : Member) (there : Contains mixin.methods origin) (single : (other : Member) → Contains mixin.methods other → other ≡ origin) where
+module _ (mixin : Applied) (origin : Member) (there : Contains mixin.methods origin) (single : (other : Member) → Contains mixin.methods other → other ≡ origin) where
   stays : (method : Member) → (AreSame method origin → ⊥) → IsMember mixin method method
   stays method other = unchanged (λ o c same. other (subst (AreSame method) (single o c) same))
 
@@ -155,11 +157,11 @@ module _ (mixin : ClassFile) (origin : Member) (there : Contains mixin.methods o
   all_stay old (method ∷ methods) same apart =
       (stays method (λ h. apart 0 method refl (same.0 ∙ sym h.0, same.1 ∙ sym h.1)), all_stay old methods same (λ k. apart (suc k)))
 
-  table : (methods : List Member) (place : ℕ) (old : Member) → slice_get methods place ≡ Some old → AreSame old origin → AreDistinct methods → AllZip (IsMember mixin) methods (set methods place (overwritten old origin))
+  table : (methods : List Member) (place : ℕ) (old : Member) → slice_get methods place ≡ Some old → AreSame old origin → AreDistinct methods → AllZip (IsMember mixin) methods (set methods place (model.overwritten mixin.name mixin.target old origin))
   table [] place old at same distinct = cc
   table (method ∷ methods) zero old at same distinct =
       let is : method ≡ old = some_is method old at in (
-        subst (λ (m : Member). IsMember mixin m (overwritten old origin)) (sym is) (replaced there same),
+        subst (λ (m : Member). IsMember mixin m (model.overwritten mixin.name mixin.target old origin)) (sym is) (replaced there same),
         all_stay method methods (subst (λ (m : Member). AreSame m origin) (sym is) same) (none_later method methods distinct),
       )
   table (method ∷ methods) (suc place) old at same distinct =
@@ -241,8 +243,8 @@ module _ (game mixin woven : ClassFile) (is : IsOverwritten game mixin woven) wh
   only_origin : (other : Member) → Contains mixin.methods other → other ≡ is.origin
   only_origin other there = one_only mixin.methods is.origin other is.is_mixin.1.1.of_role is.of_mixin there
 
-  made_table : AllZip (IsMember mixin) game.methods (set game.methods is.place (overwritten is.made.old is.origin))
-  made_table = table mixin is.origin is.of_mixin only_origin game.methods is.place is.made.old is.made.at target_same (game_formed game Game is.bytes is.is_game).distinct_methods
+  made_table : AllZip (IsMember (applied mixin)) game.methods (set game.methods is.place (overwritten is.made.old is.origin))
+  made_table = table (applied mixin) is.origin is.of_mixin only_origin game.methods is.place is.made.old is.made.at target_same (game_formed game Game is.bytes is.is_game).distinct_methods
 
   pub is_written : (bytes : List ℕ) → Writes woven bytes → IsWritten game mixin ((written_path, bytes) ∷ [])
   is_written bytes writes =
@@ -259,7 +261,7 @@ module _ (game mixin woven : ClassFile) (is : IsOverwritten game mixin woven) wh
         class = written;
         spelled = writes.spelled;
         version = ap (λ (c : ClassFile). c.version) as_game;
-        table = subst (AllZip (IsMember mixin) game.methods) (sym has_methods) made_table;
+        table = subst (AllZip (IsMember (applied mixin)) game.methods) (sym has_methods) made_table;
         verifies = subst (AllByRecursion IsGameMethod) (sym has_methods) made_methods;
         more = writes.same.pool.0;
         same_front = writes.same.pool.1 ∙ ap (λ (c : ClassFile). c.pool ++ writes.same.pool.0) is.made.made;

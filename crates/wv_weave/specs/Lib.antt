@@ -1,4 +1,5 @@
 pub mod ThinClass
+pub mod Applied
 pub mod FirstForm
 pub mod WovenFiles
 pub mod ClassRead

@@ -2,7 +2,7 @@
 use Rattle.std.specs.Prelude.{◌≡◌, ℕ, List, take, All, Contains, Some, slice_get, slice_set}
 use Rattle.wv_base.specs.declared.class_file.ClassFile.{ClassFile}
 use Rattle.wv_base.specs.declared.class_file.Member.{Member}
-use Rattle.wv_model.specs.MemberTable.{overwritten}
+use Rattle.wv_weave.specs.Applied.{overwritten}
 use Rattle.wv_model.specs.PlainCode.{Game, Mixin, class_name}
 use Rattle.wv_model.specs.PlainMethod.{AreSame}
 use Rattle.wv_weave.specs.ThinClass.{IsThinClass}

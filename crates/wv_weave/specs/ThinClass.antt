@@ -77,7 +77,7 @@ NamesClass pool name = (n : ℕ) × (pools.class_name pool n ≡ Some name)
 -- what only one of the roles asks: the game's class doesn't name the mixin, and the mixin has one method
 abbrev pub MeetsRole : Role → ClassFile → Type 0
 MeetsRole Game class = NamesClass class.pool (class_name Mixin) → ⊥
-MeetsRole Mixin class = HasOneMethod class
+MeetsRole Mixin class = HasOneMethod class.methods
 
 -- public and super (table 4.1-B)
 abbrev pub class_flags : ℕ

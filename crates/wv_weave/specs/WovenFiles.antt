@@ -9,8 +9,9 @@ use Rattle.wv_base.specs.Folder.{File}
 use Rattle.wv_class.specs.Meaning.{Spells}
 use Rattle.wv_model.specs.FirstMeaning.{MeansHooked}
 use Rattle.wv_model.specs.MemberTable.{IsTable}
-use Rattle.wv_model.specs.PlainCode.{Game, Mixin}
+use Rattle.wv_model.specs.PlainCode.{Game, Mixin, class_name}
 use Rattle.wv_model.specs.PlainMethod.{IsGameMethod}
+use Rattle.wv_weave.specs.Applied.{applied}
 use Rattle.wv_weave.specs.FirstForm.{HasClass}
 use Rattle.wv_weave.specs.ThinClass.{IsThinForm}
 
@@ -30,18 +31,19 @@ pub record IsWritten (game mixin : ClassFile) (files : List File) : Type 0 where
   pub class : ClassFile
   pub spelled : Spells bytes class
   pub version : class.version ≡ written_version game.version mixin.version
-  pub table : IsTable game mixin class.methods
+  pub table : IsTable (applied mixin) game.methods class.methods
   pub verifies : AllByRecursion IsGameMethod class.methods
   pub more : List PoolEntry
   pub same_front : class.pool ≡ game.pool ++ more
   -- all else is as it was read: name, superclass, flags, interfaces, fields, annotations and attributes that are kept
   pub others : class ≡ record game { version = class.version; methods = class.methods; pool = class.pool }
 
--- the written files for a folder, whose two classes are thin
+-- the written files for a folder, whose two classes are thin, and whose game class has the name by its path
 pub record IsWoven (folder files : List File) : Type 0 where
   pub game : ClassFile
   pub has_game : HasClass folder Game game
   pub thin_game : IsThinForm Game game
+  pub named : game.name ≡ class_name Game
   pub mixin : ClassFile
   pub has_mixin : HasClass folder Mixin mixin
   pub thin_mixin : IsThinForm Mixin mixin
@@ -58,4 +60,4 @@ pub record MeansFolder (folder files : List File) : Type 0 where
   pub classes : List ClassFile
   pub files_of : AllZip IsFileOf files classes
   pub only : (others : List ClassFile) → AllZip IsFileOf files others → others ≡ classes
-  pub means : (game mixin : ClassFile) → HasClass folder Game game → HasClass folder Mixin mixin → MeansHooked game mixin classes
+  pub means : (game mixin : ClassFile) → HasClass folder Game game → HasClass folder Mixin mixin → MeansHooked (game ∷ []) (applied mixin ∷ []) classes

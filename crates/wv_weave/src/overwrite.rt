@@ -1,6 +1,6 @@
 //! The overwrite of one method of the target by the mixin's.
 ghost use Rattle.std.specs.Prelude.{◌≡◌, ◌<◌, ◌↔◌, map, option_map, option_copied, length, IsTrue, All, IfOk, IfNone, IfSome, OnOk, OnErr};
-ghost use Rattle.wv_model.specs.MemberTable.{read_in_target, body_in_target, overwritten};
+ghost use Rattle.wv_weave.specs.Applied.{read_in_target, body_in_target, overwritten};
 ghost use Rattle.wv_model.specs.PlainMethod.{AreSame};
 ghost use Rattle.wv_model.specs.PlainCode.{Game, class_name};
 ghost use Rattle.wv_weave.specs.Overwrite.{IsTarget, IsOverwrite};

@@ -1,5 +1,5 @@
 use Rattle.std.proofs.Common.{◌≡◌, map, take}
-use Rattle.wv_model.specs.MemberTable.{read_in_target}
+use Rattle.wv_weave.specs.Applied.{read_in_target}
 use Rattle.wv_weave.proofs.overwrite.insns_in.Given as goal
 
 abbrev pub invariant-loop-insn : goal.invariant-loop-insn
