@@ -17,7 +17,6 @@ pub mod Threads
 pub mod PlainCode
 pub mod PlainTyping
 pub mod PlainMethod
-pub mod FirstBroken
 pub mod FolderRead
 pub mod MemberTable
 pub mod FirstFormExamples
