@@ -34,10 +34,13 @@ are_written folder files woven =
     let mixins = applied woven.mixin ∷ [] in
     record {
       single = (woven.thin_mixin.of_role, tt);
-      each = (record {
-        same_name = ap (λ (c : ClassFile). c.name) written.others;
-        table = subst (λ name. IsTableOf (find (λ (m : Applied). bytes_eq m.target name) mixins) game.methods written.class.methods) (sym woven.named) written.table;
-      }, tt);
+      each = (
+        record {
+          same_name = ap (λ (c : ClassFile). c.name) written.others;
+          table = subst (λ name. IsTableOf (find (λ (m : Applied). bytes_eq m.target name) mixins) game.methods written.class.methods) (sym woven.named) written.table;
+        },
+        tt,
+      );
     }
 
 pub woven_corresponds : (folder files : List File) → IsWoven folder files → MeansFolder folder files
