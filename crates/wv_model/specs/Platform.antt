@@ -15,19 +15,19 @@ callbacks = codes "org/spongepowered/asm/mixin/injection/callback/"
 unfoldable pub throwables : List (List ℕ)
 throwables =
     in_package (codes "java/lang/") (
-      codes "Throwable" ∷ codes "Exception" ∷ codes "Error" ∷ codes "RuntimeException" ∷ codes "AssertionError"
-      ∷ codes "ArithmeticException" ∷ codes "ArrayStoreException" ∷ codes "ClassCastException"
-      ∷ codes "IllegalArgumentException" ∷ codes "IllegalStateException" ∷ codes "IllegalMonitorStateException"
-      ∷ codes "IndexOutOfBoundsException" ∷ codes "NegativeArraySizeException" ∷ codes "NullPointerException"
-      ∷ codes "UnsupportedOperationException" ∷ codes "ArrayIndexOutOfBoundsException"
-      ∷ codes "StringIndexOutOfBoundsException" ∷ codes "NumberFormatException" ∷ [])
+    codes "Throwable" ∷ codes "Exception" ∷ codes "Error" ∷ codes "RuntimeException" ∷ codes "AssertionError"
+    ∷ codes "ArithmeticException" ∷ codes "ArrayStoreException" ∷ codes "ClassCastException"
+    ∷ codes "IllegalArgumentException" ∷ codes "IllegalStateException" ∷ codes "IllegalMonitorStateException"
+    ∷ codes "IndexOutOfBoundsException" ∷ codes "NegativeArraySizeException" ∷ codes "NullPointerException"
+    ∷ codes "UnsupportedOperationException" ∷ codes "ArrayIndexOutOfBoundsException"
+    ∷ codes "StringIndexOutOfBoundsException" ∷ codes "NumberFormatException" ∷ [])
     ++ in_package callbacks (codes "CancellationException" ∷ [])
 
 -- the interfaces
 unfoldable pub interfaces : List (List ℕ)
 interfaces =
     in_package (codes "java/lang/") (
-      codes "Comparable" ∷ codes "CharSequence" ∷ codes "Cloneable" ∷ codes "Iterable" ∷ codes "Runnable" ∷ [])
+    codes "Comparable" ∷ codes "CharSequence" ∷ codes "Cloneable" ∷ codes "Iterable" ∷ codes "Runnable" ∷ [])
     ++ in_package (codes "java/io/") (codes "Serializable" ∷ [])
     ++ in_package callbacks (codes "Cancellable" ∷ [])
 

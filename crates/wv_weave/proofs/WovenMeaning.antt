@@ -1,5 +1,5 @@
 -- The files that a folder is woven to correspond to its game class under its mixin.
-use Rattle.std.proofs.Common.{◌≡◌, ℕ, List, [], ◌∷◌, Option, Some, refl, sym, ap, subst, ◌∙◌}
+use Rattle.std.proofs.Common.{◌≡◌, ℕ, List, [], ◌∷◌, Option, Some, sym, ap, subst, ◌∙◌}
 use Rattle.std.specs.Prelude.{bytes_eq}
 use Rattle.std.specs.List.{AllZip, find}
 use Rattle.wv_base.specs.declared.class_file.ClassFile.{ClassFile}
@@ -34,10 +34,13 @@ are_written folder files woven =
     let mixins = applied woven.mixin ∷ [] in
     record {
       single = (woven.thin_mixin.of_role, tt);
-      each = (record {
-        same_name = ap (λ (c : ClassFile). c.name) written.others;
-        table = subst (λ name. IsTableOf (find (λ (m : Applied). bytes_eq m.target name) mixins) game.methods written.class.methods) (sym woven.named) written.table;
-      }, tt);
+      each = (
+        record {
+          same_name = ap (λ (c : ClassFile). c.name) written.others;
+          table = subst (λ name. IsTableOf (find (λ (m : Applied). bytes_eq m.target name) mixins) game.methods written.class.methods) (sym woven.named) written.table;
+        },
+        tt,
+      );
     }
 
 pub woven_corresponds : (folder files : List File) → IsWoven folder files → MeansFolder folder files
