@@ -22,12 +22,11 @@ use Rattle.wv_model.specs.Entries.{Entry, Program, Method, IsFormEntry, main_des
 use Rattle.wv_model.specs.Machine.{after}
 use Rattle.wv_model.specs.FormDomain.{Value, Answer, AVoid, AThrow, Int, Reference, SystemOut, Null, Place, MethodId, Start, At, Shared, BadAnswer, HeapFull, Unlinked, form, form_rules}
 use Rattle.wv_model.specs.Outside.{with_values, next_place, with_throwable, throwable_cells, throwing, throw_outcome, unanswered, can_be_thrown, outcome_of}
-use Rattle.wv_model.specs.Platform.{is_platform_interface}
 use Rattle.wv_model.specs.Linking.{ClassShape, MethodShape, class_named, method_named, names_interface, is_static, method_shape}
 use Rattle.wv_model.specs.PlainMethod.{IsBodyCalling, IsPlainBody, IsPlainMethod, IsPlainDescriptor, IsAnyMethod, HasPlainMethods}
 use Rattle.wv_model.specs.PlainCode.{Role, Game, Mixin, AnyClass, system_out, println, IsMethodOf, IsReferenceCalling, IsInsnCalling, IsPlainInsn}
 use Rattle.wv_model.specs.PlainMachine.{item, code_of, body_of, frame_at, plain_control, plain_machine, plain_start, shape_of}
-use Rattle.wv_model.specs.PlainRows.{quiet, insn_row, row_at, plain_effect, arguments, called, once_begun, found_effect, outside_call, static_row, reference_row, dropped, combined, println_row, push_effect}
+use Rattle.wv_model.specs.PlainRows.{quiet, insn_row, row_at, plain_effect, arguments, called, once_begun, found_effect, outside_call, static_row, reference_row, dropped, combined, println_row, push_effect, finds_no_static}
 use Rattle.wv_model.proofs.Safety.{never_stuck, starts_typed}
 use Rattle.wv_model.specs.PlainTyping as typing
 use Rattle.wv_model.specs.PlainTyping.{Stack, Leads, HasTyping}
@@ -204,14 +203,14 @@ module _ (classes : List ClassFile) (all_plain : AllByRecursion HasPlainMethods 
     outside_keeps o reference taken left there behind =
         subst (λ taken. RowKeeps method place locals stack (outside_call shapes reference taken locals shared)) (sym there) (outcome_keeps shared.answers left (record shared { appeared = with_values shared.appeared taken }) behind)
 
-    no_class_keeps : (interface : Bool) (reference : MemberReference) (taken left : List Value) → arguments reference.descriptor stack ≡ Some (taken, left) → Placed (body_of classes) method (suc place) left → RowKeeps method place locals stack (if interface then quiet locals (End (Unlinked reference.owner) shared) else outside_call shapes reference (arguments reference.descriptor stack) locals shared)
+    no_class_keeps : (no_static : Bool) (reference : MemberReference) (taken left : List Value) → arguments reference.descriptor stack ≡ Some (taken, left) → Placed (body_of classes) method (suc place) left → RowKeeps method place locals stack (if no_static then quiet locals (End (Unlinked reference.owner) shared) else outside_call shapes reference (arguments reference.descriptor stack) locals shared)
     no_class_keeps true reference taken left there after = tt
     no_class_keeps false reference taken left there after =
         outside_keeps (arguments reference.descriptor stack) reference taken left there after
 
     static_row_keeps : (found : Option (ℕ × ClassShape)) (reference : MemberReference) (taken left : List Value) → found ≡ class_named shapes reference.owner → arguments reference.descriptor stack ≡ Some (taken, left) → Placed (body_of classes) method (suc place) left → FrameRuns classes tt method (frame_at method place locals stack) → RowKeeps method place locals stack (static_row shapes reference found locals stack shared)
     static_row_keeps None reference taken left e there after here =
-        no_class_keeps (is_platform_interface reference.owner) reference taken left there after
+        no_class_keeps (finds_no_static reference) reference taken left there after
     static_row_keeps (Some (class, shape)) reference taken left e there after here =
         let at = place_found shapes class shape (position (λ c. bytes_eq c.name reference.owner) shapes) (sym e) in
         found_keeps (method_named shape reference.name reference.descriptor) reference class shape taken left at refl there after here

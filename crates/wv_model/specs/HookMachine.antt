@@ -1,5 +1,5 @@
 -- The hook machine: what unwoven classes do under their mixins. It moves no code and writes none. Our own.
-use Rattle.std.specs.Prelude.{ℕ, suc, zero, ◌&&◌, Bool, List, [], ◌∷◌, map, bytes_eq, Option, Some, None, unwrap_or, slice_get, option_map}
+use Rattle.std.specs.Prelude.{ℕ, suc, zero, ◌&&◌, Bool, List, [], map, bytes_eq, Option, Some, None, unwrap_or, slice_get, option_map}
 use Rattle.std.specs.List.{find}
 use Rattle.wv_base.specs.declared.class_file.ClassFile.{ClassFile}
 use Rattle.wv_base.specs.declared.class_file.Member.{Member}

@@ -11,7 +11,7 @@ use Rattle.wv_model.specs.Effect.{Effect, Next, Call, Give, Init, End, Stuck, Ro
 use Rattle.wv_model.specs.FormDomain.{Value, Int, Reference, SystemOut, MethodId, At, Shared, Byte, Unlinked, form}
 use Rattle.wv_model.specs.Linking.{ClassShape, MethodShape, class_named, method_named, names_interface, is_static}
 use Rattle.wv_model.specs.Outside.{outside_row}
-use Rattle.wv_model.specs.Platform.{is_platform_interface}
+use Rattle.wv_model.specs.Platform.{callbacks, is_platform_interface}
 use Rattle.wv_model.specs.PlainCode.{system_out, println}
 
 -- the row of an instruction that shows nothing; no instruction of plain code changes a local
@@ -102,13 +102,26 @@ abbrev pub outside_call : List ClassShape → MemberReference → Option (List V
 outside_call classes method None locals shared = quiet locals Stuck
 outside_call classes method (Some (taken, stack)) locals shared = outside_row classes method taken locals stack shared
 
--- the call of a method by the class of its name, if that is of the list. An interface of the platform is no class, so
--- nothing is found; of the platform's other classes, of arrays and of open names every method is found, and is outside
+-- the built-in methods without parameters and result: each needs an object
+abbrev pub built_in : List MemberReference
+built_in =
+    record { owner = codes "java/io/PrintStream"; name = codes "println"; descriptor = codes "()V" }
+    ∷ record { owner = callbacks ++ codes "CallbackInfo"; name = codes "cancel"; descriptor = codes "()V" }
+    ∷ record { owner = callbacks ++ codes "CallbackInfoReturnable"; name = codes "cancel"; descriptor = codes "()V" }
+    ∷ []
+
+-- whether a reference by a class's name finds no static method outside: its name is an interface's of the platform, or the
+-- method is built in
+abbrev pub finds_no_static : MemberReference → Bool
+finds_no_static method = is_platform_interface method.owner || list_any (is_reference method) built_in
+
+-- the call of a method by the class of its name, if that is of the list. Of the platform's classes, of arrays and of open
+-- names every other method is found, and is outside
 abbrev pub static_row : List ClassShape → MemberReference → Option (ℕ × ClassShape) → List Value → List Value → Shared → Row form
 static_row classes method (Some (class, shape)) locals stack shared =
     quiet locals (found_effect method class (method_named shape method.name method.descriptor) stack shared)
 static_row classes method None locals stack shared =
-    if is_platform_interface method.owner then quiet locals (End (Unlinked method.owner) shared)
+    if finds_no_static method then quiet locals (End (Unlinked method.owner) shared)
     else outside_call classes method (arguments method.descriptor stack) locals shared
 
 -- the instructions with a reference to a field or to a method of a class

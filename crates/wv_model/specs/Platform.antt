@@ -11,24 +11,29 @@ in_package front names = map (λ name. front ++ name) names
 abbrev pub callbacks : List ℕ
 callbacks = codes "org/spongepowered/asm/mixin/injection/callback/"
 
--- `Throwable` and the classes below it
-unfoldable pub throwables : List (List ℕ)
-throwables =
-    in_package (codes "java/lang/") (
+-- the throwables and the interfaces of `java.lang`
+abbrev pub lang_throwables : List (List ℕ)
+lang_throwables =
     codes "Throwable" ∷ codes "Exception" ∷ codes "Error" ∷ codes "RuntimeException" ∷ codes "AssertionError"
     ∷ codes "ArithmeticException" ∷ codes "ArrayStoreException" ∷ codes "ClassCastException"
     ∷ codes "IllegalArgumentException" ∷ codes "IllegalStateException" ∷ codes "IllegalMonitorStateException"
     ∷ codes "IndexOutOfBoundsException" ∷ codes "NegativeArraySizeException" ∷ codes "NullPointerException"
     ∷ codes "UnsupportedOperationException" ∷ codes "ArrayIndexOutOfBoundsException"
-    ∷ codes "StringIndexOutOfBoundsException" ∷ codes "NumberFormatException" ∷ [])
-    ++ in_package callbacks (codes "CancellationException" ∷ [])
+    ∷ codes "StringIndexOutOfBoundsException" ∷ codes "NumberFormatException" ∷ []
+
+abbrev pub lang_interfaces : List (List ℕ)
+lang_interfaces =
+    codes "Comparable" ∷ codes "CharSequence" ∷ codes "Cloneable" ∷ codes "Iterable" ∷ codes "Runnable" ∷ []
+
+-- `Throwable` and the classes below it
+unfoldable pub throwables : List (List ℕ)
+throwables =
+    in_package (codes "java/lang/") lang_throwables ++ in_package callbacks (codes "CancellationException" ∷ [])
 
 -- the interfaces
 unfoldable pub interfaces : List (List ℕ)
 interfaces =
-    in_package (codes "java/lang/") (
-    codes "Comparable" ∷ codes "CharSequence" ∷ codes "Cloneable" ∷ codes "Iterable" ∷ codes "Runnable" ∷ [])
-    ++ in_package (codes "java/io/") (codes "Serializable" ∷ [])
+    in_package (codes "java/lang/") lang_interfaces ++ in_package (codes "java/io/") (codes "Serializable" ∷ [])
     ++ in_package callbacks (codes "Cancellable" ∷ [])
 
 -- whether a name is one of these

@@ -1,12 +1,10 @@
 -- What a weave answers is the first broken rule, or the woven files where none is broken.
-use Rattle.std.proofs.Common.{◌≡◌, ℕ, ◌<◌, ◌⊎◌, List, None, Some, Option, Result, Ok, Err, IfOk, refl, sym, ap, subst, ◌∙◌, inl, inr, arith, Bool, true, false}
+use Rattle.std.proofs.Common.{◌≡◌, ℕ, ◌<◌, ◌⊎◌, List, None, Some, Option, Result, Ok, Err, IfOk, refl, sym, subst, ◌∙◌, inl, inr, arith, Bool, true, false}
 use Rattle.std.specs.Prelude.{bytes_eq, IsTrue, ◌↔◌}
 use Rattle.std.proofs.lemmas.Slice.Eq.{bytes_eq-Decides}
 use Rattle.wv_base.specs.Folder.{File, content_of}
 use Rattle.wv_base.specs.declared.broken.Broken.{Broken}
 use Rattle.wv_base.specs.declared.class_file.ClassFile.{ClassFile}
-use Rattle.wv_class.specs.Layout.{IsLayoutFault}
-use Rattle.wv_class.specs.Meaning.{IsReferenceFault}
 use Rattle.wv_model.specs.PlainCode.{Role, Game, Mixin, class_name}
 use Rattle.wv_weave.specs.ClassRead.{IsReadOf}
 use Rattle.wv_weave.specs.declared.class_read.ClassRead.{ClassRead}
@@ -14,12 +12,12 @@ use Rattle.wv_weave.specs.declared.class_read.ClassRead.TheVariants as reads
 use Rattle.wv_weave.specs.declared.fault.WeaveFault.{WeaveFault}
 use Rattle.wv_weave.specs.declared.fault.WeaveFault.TheVariants as faults
 use Rattle.wv_weave.specs.declared.weaver.Woven.{Woven}
-use Rattle.wv_weave.specs.FirstForm.{class_path, bad_layout, bad_reference, other_name, other_version, out_of_form, Breaks, BreaksForm, FirstBroken, HasOtherName, HasOtherVersion, Holds, InClassFiles, IsBadClass, IsOutsideVersions, NoneBroken, Unlimited, here, behind}
+use Rattle.wv_weave.specs.FirstForm.{class_path, bad_layout, bad_reference, other_name, other_version, out_of_form, BreaksForm, FirstBroken, HasOtherName, HasOtherVersion, Holds, InClassFiles, IsBadClass, IsOutsideVersions, NoneBroken, Unlimited, here, behind}
 use Rattle.wv_weave.specs.Merging.{AppliesRead, Answers, Applies, HasBytes, ClassRefusal, Merges, game_version, mixin_version, game_name, mixin_name, none}
 use Rattle.wv_weave.specs.Outside.{IsOut, IsFirstPath}
 use Rattle.wv_weave.specs.WovenFiles.{IsWoven, MeansFolder}
-use Rattle.wv_weave.proofs.OutsidePlaces.{form_holds, form_first}
-use Rattle.wv_weave.proofs.RulePlaces.{HasPlace, NoPlace, OnePlace, game_first, mixin_first, neither, layout_place, reference_place, no_bad_place, version_place, no_version_place, name_place, no_name_place, some_version, some_name, missing_first, none_lacks}
+use Rattle.wv_weave.proofs.OutsidePlaces.{form_first}
+use Rattle.wv_weave.proofs.RulePlaces.{HasPlace, OnePlace, game_first, mixin_first, neither, layout_place, reference_place, no_bad_place, version_place, no_version_place, name_place, no_name_place, some_version, some_name, missing_first, none_lacks}
 use Rattle.wv_weave.proofs.WovenMeaning.{woven_corresponds}
 
 abbrev Answer : Type 0

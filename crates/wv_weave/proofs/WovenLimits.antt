@@ -16,7 +16,6 @@ use Rattle.wv_base.specs.declared.constant.MemberReference.{MemberReference}
 use Rattle.wv_base.specs.declared.fault.LimitFault.{LimitFault}
 use Rattle.wv_base.specs.declared.fault.LimitFault.TheVariants as faults
 use Rattle.wv_base.specs.declared.insn.Insn.{Insn}
-use Rattle.wv_base.specs.declared.insn.Insn.TheVariants as insns
 use Rattle.wv_base.specs.Opcodes.{putfield, bipush, invokeinterface}
 use Rattle.wv_class.specs.Limits.{member_attributes, class_attributes, one_if, HasLong, SomeHasLong, HasLongList, IsTooLong, BreaksLimit, FirstOf, IsCause}
 use Rattle.wv_class.specs.Needs.{parts_of, code_constants, member_needs, members_need, head_constants, annotations_need, class_needs}

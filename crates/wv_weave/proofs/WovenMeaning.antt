@@ -1,5 +1,5 @@
 -- The files that a folder is woven to correspond to its game class under its mixin.
-use Rattle.std.proofs.Common.{◌≡◌, ℕ, List, [], ◌∷◌, Option, Some, refl, sym, ap, subst, ◌∙◌}
+use Rattle.std.proofs.Common.{◌≡◌, ℕ, List, [], ◌∷◌, Option, Some, sym, ap, subst, ◌∙◌}
 use Rattle.std.specs.Prelude.{bytes_eq}
 use Rattle.std.specs.List.{AllZip, find}
 use Rattle.wv_base.specs.declared.class_file.ClassFile.{ClassFile}

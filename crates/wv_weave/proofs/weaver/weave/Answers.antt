@@ -1,4 +1,4 @@
-use Rattle.std.proofs.Common.{List, ◌∙◌, subst}
+use Rattle.std.proofs.Common.{◌∙◌, subst}
 use Rattle.wv_model.specs.PlainCode.{Game, Mixin}
 use Rattle.wv_weave.specs.ClassRead.{IsReadOf}
 use Rattle.wv_weave.specs.FirstForm.{class_path, bad_layout, bad_reference, out_of_form}
