@@ -53,14 +53,21 @@ written_with method =
 abbrev pub method_f : List ℕ → MemberReference
 method_f owner = record { owner = owner; name = codes "f"; descriptor = codes "()V" }
 
--- a game whose main method calls `f()V` of a class and returns
-abbrev pub main_calling : List ℕ → ClassFile
-main_calling owner =
+-- a game whose main method calls a method and returns
+abbrev pub main_with : MemberReference → ClassFile
+main_with method =
     record small_class {
-      methods =
-          record calling_main { body = (method_with (refer invokestatic (method_f owner) ∷ insns.Plain return ∷ [])).body }
-          ∷ [];
+      methods = record calling_main { body = (method_with (refer invokestatic method ∷ insns.Plain return ∷ [])).body } ∷ [];
     }
+
+-- one that calls `f()V` of a class
+abbrev pub main_calling : List ℕ → ClassFile
+main_calling owner = main_with (method_f owner)
+
+-- one that calls `println()V` as if it were static
+abbrev pub main_printing : ClassFile
+main_printing =
+    main_with (record { owner = codes "java/io/PrintStream"; name = codes "println"; descriptor = codes "()V" })
 
 -- another class, with `f()V`
 abbrev pub other_class : ClassFile

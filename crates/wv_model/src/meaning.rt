@@ -10,7 +10,7 @@ ghost use Rattle.wv_model.specs.FirstMeaning.{AreWritten, FormRel, MeansHooked};
 ghost use Rattle.wv_model.specs.FormDomain.{Answer, AnInt, AVoid, AThrow, BadAnswer, Byte, Deep, HeapFull, NoAnswer, Outside, Returned, ShownReference, ShownVoid, Threw, Unlinked, form};
 ghost use Rattle.wv_model.specs.HookMachine.{Point, hook_control, hook_machine, hook_start, run_hooked};
 ghost use Rattle.wv_model.specs.Machine.{Budget, Ended, after};
-ghost use Rattle.wv_model.specs.MeaningExamples.{asking_method, calling_game, calling_method, entry_f, entry_main, main_calling, mixin_on, mixin_with, open_f, open_game, open_main, other_class, printing_method, shown_error, throw_error, written_with};
+ghost use Rattle.wv_model.specs.MeaningExamples.{asking_method, calling_game, calling_method, entry_f, entry_main, main_calling, main_printing, mixin_on, mixin_with, open_f, open_game, open_main, other_class, printing_method, shown_error, throw_error, written_with};
 ghost use Rattle.wv_model.specs.MemberTable.{Applied};
 ghost use Rattle.wv_model.specs.PlainCode.{Role};
 ghost use Rattle.wv_model.specs.PlainMethod.{HasPlainMethods, IsAnyMethod, IsPlainMethod};
@@ -69,13 +69,15 @@ pub fn meaning_examples()
 {}
 
 /// Two classes: a call of the other class takes one step that marks it as begun; a mixin of the other class changes what
-/// is called there; the main class may be any; no method of a platform's interface is found by a class's reference.
+/// is called there; the main class may be any; no method of a platform's interface is found by a class's reference, and
+/// none that is built in and needs an object.
 pub fn two_classes_examples()
     ensures begins { (after (plain_machine (main_calling (codes "app/Other") ∷ other_class ∷ [])) 3 (plain_start entry_main 1 [])).shared.begun ≡ 1 ∷ 0 ∷ [] }
     ensures returns { run_plain (main_calling (codes "app/Other") ∷ other_class ∷ []) entry_main 1 [] 7 ≡ record { trace = []; finish = Ended Returned } }
     ensures not_sooner { run_plain (main_calling (codes "app/Other") ∷ other_class ∷ []) entry_main 1 [] 6 ≡ record { trace = []; finish = Budget } }
     ensures hooked_other { run_hooked (main_calling (codes "app/Other") ∷ other_class ∷ []) (mixin_on (codes "app/Other") asking_method ∷ []) entry_main 1 (AVoid ∷ []) 8 ≡ record { trace = Outside open_f [] (Some ShownVoid) ∷ []; finish = Ended Returned } }
     ensures other_main { run_plain (small_class ∷ other_class ∷ []) (Program (codes "app/Other")) 1 [] 1 ≡ record { trace = []; finish = Ended (Unlinked (codes "app/Other")) } }
+    ensures no_static_method { run_plain (main_printing ∷ []) entry_main 1 (AVoid ∷ []) 3 ≡ record { trace = []; finish = Ended (Unlinked (codes "java/io/PrintStream")) } }
     ensures no_interface_method { run_plain (main_calling (codes "java/lang/Runnable") ∷ []) entry_main 1 [] 3 ≡ record { trace = []; finish = Ended (Unlinked (codes "java/lang/Runnable")) } }
 {}
 
