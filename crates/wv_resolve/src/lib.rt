@@ -6,6 +6,7 @@ mod check;
 mod discovery;
 mod kind;
 mod laws;
+mod path;
 mod present;
 mod refusal;
 mod resolution;
@@ -16,6 +17,7 @@ pub use laws::{
     loaded_or_refused, mod_folder_parts, one_description, one_first_broken, one_loading,
     one_refusal, one_resolution, resolved_or_refused,
 };
+pub use path::is_read;
 pub use resolution::resolve;
 
 #[cfg(test)]

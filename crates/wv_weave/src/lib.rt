@@ -9,7 +9,6 @@ mod note;
 mod opcode;
 mod outside;
 mod overwrite;
-mod path;
 mod plain;
 mod refusal;
 mod role;
@@ -19,5 +18,4 @@ mod weaver;
 
 pub use fault::WeaveFault;
 pub use laws::{jars_count, one_first_broken, woven_corresponds};
-pub use path::is_read;
 pub use weaver::{Woven, weave};

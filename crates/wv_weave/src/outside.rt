@@ -9,8 +9,8 @@ use crate::form::{
     CONFIG_JSON, CONFIG_PATH, GAME_CLASS_PATH, GAME_JSON, GAME_JSON_PATH, MIXIN_CLASS_PATH,
     MOD_JSON, MOD_JSON_PATH,
 };
-use crate::path::is_read;
 use wv_base::Folder;
+use wv_resolve::is_read;
 
 /// Whether a path counts for the form, being read or a jar's.
 #[tactic(auto, unfolding(crate::specs::FirstForm::counts))]

@@ -1,7 +1,7 @@
 use Rattle.std.proofs.Common.{lit<}
 use Rattle.std.proofs.lemmas.Iterator.Consumers.{nth_from_yields_List}
 use Rattle.std.proofs.lemmas.Iterator.Splits.{YieldsList-from_str_split}
-use Rattle.wv_weave.proofs.path.part.Goals as goal
+use Rattle.wv_resolve.proofs.path.part.Goals as goal
 
 pub returns : goal.returns
 returns c =

@@ -1,7 +1,7 @@
 use Rattle.std.proofs.Common.{codes, bytes_eq, not, lit<, rules, tests}
 use Rattle.std.proofs.lemmas.Iterator.Search.{all_from_yields_List}
 use Rattle.std.proofs.lemmas.Iterator.Splits.{YieldsList-from_str_split}
-use Rattle.wv_weave.proofs.path.is_outside_meta_inf.Goals as goal
+use Rattle.wv_resolve.proofs.path.is_outside_meta_inf.Goals as goal
 
 pub returns : goal.returns
 returns c =

@@ -3,7 +3,7 @@ use Rattle.std.specs.List.{fold, last_or}
 use Rattle.std.proofs.lemmas.Iterator.Adapters.{total_from_yields_List}
 use Rattle.std.proofs.lemmas.Iterator.Splits.{YieldsList-from_str_split}
 use Rattle.wv_model.specs.FolderRead.{parts}
-use Rattle.wv_weave.proofs.path.file_name.Goals as goal
+use Rattle.wv_resolve.proofs.path.file_name.Goals as goal
 
 last_or-fold : {A B : Type 0} (v : A → B) (o : Option A) (xs : List A) → option_map v (last_or o xs) ≡ fold (λ _ x. Some (v x)) (option_map v o) xs
 last_or-fold v o [] = refl
