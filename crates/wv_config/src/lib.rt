@@ -6,6 +6,7 @@ mod fault;
 mod field;
 mod key;
 mod laws;
+mod loaded;
 mod refmap;
 mod slashes;
 
@@ -13,6 +14,7 @@ pub use config::{Config, read_config};
 pub use fault::ConfigFault;
 pub use key::Key;
 pub use laws::{no_config_is_broken, one_config, one_refusal};
+pub use loaded::{Configs, LoadedConfig};
 pub use refmap::{Names, Refmap, read_refmap};
 
 #[cfg(test)]
