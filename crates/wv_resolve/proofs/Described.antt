@@ -1,5 +1,5 @@
 -- The descriptions of mods, as the names of their folders are gone over.
-use Rattle.std.proofs.Common.{◌≡◌, inl, inr, ℕ, zero, suc, ◌+◌, ◌<◌, ◌≤◌, List, [], ◌∷◌, length, get_or, take, map, Any, Contains, Some, None, refl, ap, sym, ◌∙◌, subst, arith, length-take}
+use Rattle.std.proofs.Common.{◌≡◌, inl, inr, ℕ, zero, suc, ◌<◌, ◌≤◌, List, [], ◌∷◌, length, get_or, take, Any, Some, None, refl, ap, sym, ◌∙◌, subst, arith, length-take}
 use Rattle.std.specs.Borrow.{Bor}
 use Rattle.std.specs.List.{AllZip}
 use Rattle.std.proofs.lemmas.Bool.{cases_order}
@@ -11,7 +11,7 @@ use Rattle.wv_mod.specs.declared.fault.ModFault.{ModFault}
 use Rattle.wv_mod.specs.declared.fault.ModFault.TheVariants as fault
 use Rattle.wv_resolve.specs.declared.discovery.Description.{Description}
 use Rattle.wv_resolve.specs.Refusal.{IsBrokenFault}
-use Rattle.wv_resolve.specs.Discovery.{IsModFolder, NeedsDescription, HasDescription, LacksDescription, description_path}
+use Rattle.wv_resolve.specs.Discovery.{IsModFolder, LacksDescription, description_path}
 use Rattle.wv_resolve.specs.Finding.{texts_at, AreModFolders, IsDescriptionIn, LacksIn, AreDescriptions}
 use Rattle.wv_resolve.proofs.Paths.{not-before_itself, not-both_before}
 

@@ -1,10 +1,10 @@
 -- The mods of a folder, and the first rule that it breaks, from what was found.
-use Rattle.std.proofs.Common.{◌≡◌, ◌⊎◌, inl, inr, ℕ, zero, suc, ◌<◌, List, [], ◌∷◌, length, get_or, Any, Some, None, Result, Ok, Err, IfOk, IfErr, OnOk, refl, ap, sym, ◌∙◌, subst, arith, lit<}
+use Rattle.std.proofs.Common.{◌≡◌, inl, inr, ℕ, zero, suc, ◌<◌, List, [], ◌∷◌, length, get_or, Any, Some, None, Result, Ok, Err, IfOk, IfErr, OnOk, ap, sym, ◌∙◌, subst, arith, lit<}
 use Rattle.std.specs.List.{AllZip}
 use Rattle.std.proofs.lemmas.List.Elements.{All-contains}
 use Rattle.wv_base.specs.declared.broken.Broken.{Broken}
 use Rattle.wv_base.specs.declared.rule.Rule.{Rule}
-use Rattle.wv_base.specs.declared.rule.Rule.TheVariants.{ModMissing, ModBad, IdBad, NestedJars, PredicateBad, DuplicateId, DependsUnmet, BreaksMet}
+use Rattle.wv_base.specs.declared.rule.Rule.TheVariants.{ModBad, IdBad, NestedJars, PredicateBad, DuplicateId, DependsUnmet, BreaksMet}
 use Rattle.wv_base.specs.declared.side.Side.{Side}
 use Rattle.wv_base.specs.Folder.{File, IsPathBefore, content_of}
 use Rattle.wv_base.specs.Rule.{number_of}

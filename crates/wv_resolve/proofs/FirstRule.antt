@@ -1,5 +1,5 @@
 -- One rule is the first that is broken, where each is broken in one way at a path.
-use Rattle.std.proofs.Common.{◌≡◌, inl, inr, List, ◌∷◌}
+use Rattle.std.proofs.Common.{◌≡◌, inl, inr, List}
 use Rattle.std.specs.List.{AllByRecursion}
 use Rattle.wv_base.specs.declared.broken.Broken.{Broken}
 use Rattle.wv_base.specs.declared.rule.Rule.{Rule}

@@ -1,9 +1,9 @@
 -- The names of the folders of mods, as the files are gone over.
-use Rattle.std.proofs.Common.{◌≡◌, ◌⊎◌, inl, inr, ℕ, ◌+◌, ◌-◌, ◌<◌, ◌≤◌, Bool, true, false, true≢false, MatchBool, List, [], ◌∷◌, ◌++◌, length, get_or, take, All, Any, Contains, Some, refl, ap, sym, ◌∙◌, subst, arith, length-append, length-take, bytes_eq}
+use Rattle.std.proofs.Common.{◌≡◌, ◌⊎◌, inl, inr, ℕ, ◌+◌, ◌-◌, ◌<◌, Bool, true, false, true≢false, MatchBool, List, [], ◌∷◌, ◌++◌, length, get_or, take, All, Any, Contains, Some, refl, ap, sym, ◌∙◌, subst, arith, length-append, bytes_eq}
 use Rattle.std.specs.Borrow.{Bor}
 use Rattle.std.specs.List.{slice_get}
-use Rattle.std.proofs.lemmas.Bool.{cases_order, MatchBool-at_true, MatchBool-at_false}
-use Rattle.std.proofs.lemmas.List.{map-append, get_or_default, get_or-take}
+use Rattle.std.proofs.lemmas.Bool.{cases_order}
+use Rattle.std.proofs.lemmas.List.{map-append, get_or_default}
 use Rattle.std.proofs.lemmas.List.Elements.{All-push, All-weaker, Contains-append_left, Contains-push, Contains-push_cases}
 use Rattle.std.proofs.lemmas.List.Quantifiers.{all_pairs_push}
 use Rattle.std.proofs.lemmas.Option.{slice_get-get_or}

@@ -15,3 +15,4 @@ pub mod OneMods
 pub mod Discovering
 pub mod OneLoading
 pub mod Parts
+pub mod Loaded

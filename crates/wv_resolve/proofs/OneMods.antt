@@ -1,25 +1,24 @@
 -- A folder describes its mods in one way.
-use Rattle.std.proofs.Common.{◌≡◌, ◌⊎◌, inl, inr, ℕ, zero, suc, ◌<◌, List, [], ◌∷◌, length, get_or, All, AllPairs, Contains, Some, refl, ap, sym, ◌∙◌, subst, arith, add-one}
-use Rattle.std.proofs.lemmas.List.{get_or_default}
+use Rattle.std.proofs.Common.{◌≡◌, ◌⊎◌, inl, inr, ℕ, zero, suc, List, [], ◌∷◌, AllPairs, Contains, Some, refl, ap, sym, ◌∙◌, subst, arith}
 use Rattle.std.proofs.lemmas.List.Elements.{All-contains}
 use Rattle.wv_base.specs.declared.side.Side.{Side}
 use Rattle.wv_base.specs.Folder.{File, IsPathBefore, content_of}
 use Rattle.wv_mod.specs.declared.mod_info.ModInfo.{ModInfo}
 use Rattle.wv_mod.specs.ModInfo.{IsMod}
 use Rattle.wv_mod.proofs.OneMod.{mod-one}
-use Rattle.wv_resolve.specs.Discovery.{NeedsDescription, IsDescribed, AreMods}
+use Rattle.wv_resolve.specs.Discovery.{IsDescribed, AreMods}
 use Rattle.wv_resolve.proofs.Paths.{not-both_before}
 
 -- ---- Lists in order that have the same elements
 
-contains-cases : {A : Type 0} (x : A) (xs : List A) (z : A) → Contains (x ∷ xs) z → (x ≡ z) ⊎ Contains xs z
+pub contains-cases : {A : Type 0} (x : A) (xs : List A) (z : A) → Contains (x ∷ xs) z → (x ≡ z) ⊎ Contains xs z
 contains-cases x xs z (zero, inside, at) = inl at
 contains-cases x xs z (suc k, inside, at) = inr (k, omega arith, at)
 
-contains-head : {A : Type 0} (x : A) (xs : List A) → Contains (x ∷ xs) x
+pub contains-head : {A : Type 0} (x : A) (xs : List A) → Contains (x ∷ xs) x
 contains-head x xs = (0, omega arith, refl)
 
-contains-later : {A : Type 0} (x : A) (xs : List A) (z : A) → Contains xs z → Contains (x ∷ xs) z
+pub contains-later : {A : Type 0} (x : A) (xs : List A) (z : A) → Contains xs z → Contains (x ∷ xs) z
 contains-later x xs z (k, inside, at) = (suc k, omega arith, at)
 
 module _ {A : Type 0} (R : A → A → Type 0) (one_way : (a b : A) → R a b → R b a → ⊥) where

@@ -7,7 +7,7 @@ use Rattle.wv_model.specs.FolderRead.{parts}
 use Rattle.wv_version.specs.Cut.{IsFree}
 use Rattle.wv_version.proofs.Cutting.{parts-cut}
 use Rattle.wv_resolve.specs.Discovery.{LiesIn}
-use Rattle.wv_resolve.proofs.Paths.{IsInner, inner, from-inner}
+use Rattle.wv_resolve.proofs.Paths.{inner, from-inner}
 
 -- three parts or more, of which the first is `mods`
 abbrev pub HasThreeParts : (name path : List ℕ) → Type 0

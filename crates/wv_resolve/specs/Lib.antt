@@ -5,3 +5,4 @@ pub mod Resolution
 pub mod Holding
 pub mod Discovery
 pub mod Finding
+pub mod LoadedFolder

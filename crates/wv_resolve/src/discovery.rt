@@ -54,7 +54,7 @@ fn descriptions<'a>(alloc: Global, folder: &'a Folder) -> Result<Vec<Description
 
 /// The names of the folders of mods, each once. Files are ordered by their paths, so those of one
 /// folder stand together.
-fn mod_folders<'a>(alloc: Global, folder: &'a Folder) -> Result<Vec<&'a str>, Memory>
+pub(crate) fn mod_folders<'a>(alloc: Global, folder: &'a Folder) -> Result<Vec<&'a str>, Memory>
     ensures { IfOk result (λ names. AreModFolders folder.now (texts_at names.items)) }
 {
     let mut names = Vec::new(alloc);

@@ -1,4 +1,4 @@
-use crate::load_mods;
+use crate::{load_mods, loaded_folders};
 use std::alloc::Global;
 use std::test::Fail;
 use wv_base::{Bytes, Folder, LINE, Side, Text, write_broken};
@@ -278,5 +278,27 @@ fn rules_of_mods_together(rt: HostRuntime) -> Result<(), Fail> {
             wanted.as_str()
         );
     }
+    Ok(())
+}
+
+#[test]
+fn which_folders_are_loaded(rt: HostRuntime) -> Result<(), Fail> {
+    let alloc = rt.alloc();
+    let server = r#"{"schemaVersion":1,"id":"alpha","version":"1","environment":"server"}"#;
+    let files = folder(
+        alloc,
+        &[
+            ("mods/a b/fabric.mod.json", ALPHA),
+            ("mods/a/fabric.mod.json", ALPHA),
+            ("mods/a/x.class", ""),
+            ("mods/broken/fabric.mod.json", "{}"),
+            ("mods/missing/x.class", ""),
+            ("mods/server/fabric.mod.json", server),
+        ],
+    )?;
+    let client = loaded_folders(alloc, &files, Side::Client)?;
+    assert_eq!(rt; client.as_slice(), ["a b", "a"].as_slice());
+    let server = loaded_folders(alloc, &files, Side::Server)?;
+    assert_eq!(rt; server.as_slice(), ["a b", "a", "server"].as_slice());
     Ok(())
 }

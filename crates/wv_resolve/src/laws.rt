@@ -1,13 +1,14 @@
 //! What the contracts of `resolve` and `load_mods` mean: for any mods and for any folder there is one
 //! answer. Each law stands on a function that does nothing.
-ghost use Rattle.std.specs.Prelude.{◌≡◌, ◌↔◌, ℕ, List, ◌∷◌, codes};
+ghost use Rattle.std.specs.Prelude.{◌≡◌, ◌↔◌, ℕ, List, ◌∷◌, Any, codes};
 ghost use Rattle.wv_base.specs.declared.broken.Broken.{Broken};
 ghost use Rattle.wv_base.specs.declared.side.Side.{Side};
 ghost use Rattle.wv_base.specs.Folder.{File};
 ghost use Rattle.wv_model.specs.FolderRead.{parts};
 ghost use Rattle.wv_mod.specs.declared.mod_info.ModInfo.{ModInfo};
 ghost use Rattle.wv_resolve.specs.Resolution.{AreResolved, IsBroken};
-ghost use Rattle.wv_resolve.specs.Discovery.{LiesIn, AreMods, IsFirstBroken, AreKept, AreLoadedMods};
+ghost use Rattle.wv_resolve.specs.Discovery.{LiesIn, AreMods, IsFirstBroken, AreKept, AreLoadedMods, description_path};
+ghost use Rattle.wv_resolve.specs.LoadedFolder.{IsLoadedFolder, AreLoadedFolders};
 
 /// Mods that are resolved break no rule.
 pub fn resolved_or_refused()
@@ -57,4 +58,17 @@ pub fn loaded_or_refused()
         → AreLoadedMods builtin folder side loaded → AreKept builtin folder side }
     ensures refused { (builtin : List (List ℕ × List ℕ)) (folder : List File) (side : Side) (broken : Broken)
         → AreKept builtin folder side → IsFirstBroken builtin folder side broken → ⊥ }
+{}
+
+/// The folders of loaded mods are listed in one way.
+pub fn one_folder_list()
+    ensures { (folder : List File) (side : Side) (names other : List (List ℕ))
+        → AreLoadedFolders folder side names → AreLoadedFolders folder side other → names ≡ other }
+{}
+
+/// Where the mods of a folder are loaded, the folders of loaded mods are those of their descriptions.
+pub fn loaded_by_mods()
+    ensures { (builtin : List (List ℕ × List ℕ)) (folder : List File) (side : Side) (loaded : List ModInfo)
+        → AreLoadedMods builtin folder side loaded → (name : List ℕ)
+        → IsLoadedFolder folder side name ↔ Any (λ info. info.path ≡ description_path name) loaded }
 {}

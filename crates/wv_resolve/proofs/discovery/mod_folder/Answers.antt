@@ -1,6 +1,6 @@
 use Rattle.std.proofs.Common.{codes, lit<}
 use Rattle.std.proofs.lemmas.Str.Pattern.{split_parts}
-use Rattle.wv_resolve.proofs.Paths.{stripped, outside_mods, loose, lies}
+use Rattle.wv_resolve.proofs.Paths.{stripped, loose, lies}
 use Rattle.wv_resolve.proofs.discovery.mod_folder.Goals as goal
 
 pub returns-in_err-name : goal.returns-in_err-name
