@@ -1,0 +1,4 @@
+pub mod Limits
+pub mod Listing
+pub mod Openings
+pub mod FilesOpened
