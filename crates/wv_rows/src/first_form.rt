@@ -54,16 +54,32 @@ fn broken_rules_are_refused(rt: HostRuntime) -> Result<(), Fail> {
 fn words_that_are_no_command_are_answered(rt: HostRuntime) -> Result<(), Fail> {
     let alloc = rt.alloc();
     let usage = "usage: loader weave|run|list FOLDER [options] | gen NUMBER SIZE --out DIR\n";
-    let lines: [&[&str]; 4] = [
+    let lines: [&[&str]; 7] = [
         &[],
         &["loader", "weave"],
         &["loader", "weave", "f", "--out", "-o"],
         &["loader", "weave", "f", "--out", "o", "p"],
+        &["loader", "weave", "f", "--out", "o", "--side"],
+        &["loader", "weave", "f", "--out", "o", "--side", "both"],
+        &["loader", "weave", "f", "--out", "o", "-side", "server"],
     ];
     for line in lines {
         let outcome = run(&rt, line, Vec::new(alloc), NONE)?;
         assert_eq!(rt; outcome.status, Status::Usage);
         assert_eq!(rt; outcome.printed.as_slice(), usage.as_bytes());
+    }
+    Ok(())
+}
+
+#[test]
+fn a_side_may_be_named(rt: HostRuntime) -> Result<(), Fail> {
+    let alloc = rt.alloc();
+    for side in ["client", "server"] {
+        let words = ["loader", "weave", "f", "--out", "o", "--side", side];
+        let files = files(alloc, mixin_class(alloc)?, None)?;
+        let outcome = run(&rt, &words, files, NONE)?;
+        assert_eq!(rt; outcome.status, Status::Done, "{side}");
+        assert_eq!(rt; outcome.put.len(), 1, "{side}");
     }
     Ok(())
 }

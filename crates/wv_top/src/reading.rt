@@ -6,8 +6,8 @@ ghost use Rattle.wv_top.specs.Reading.{WhereTold, IsReadingOf, ReadsNext, file_a
 
 use std::alloc::Global;
 use wv_base::{Bytes, Folder, Text};
-use wv_tree::{IoFault, Tree};
 use wv_resolve::is_read;
+use wv_tree::{IoFault, Tree};
 
 /// How many bytes are read at most.
 const MOST_BYTES: u64 = 67_108_864;

@@ -45,23 +45,27 @@ fn first_of(alloc: Global, broken: Broken, path: &Text) -> WeaveFault
 
 /// The refusal of what was read up to a file at which the limit of bytes was passed. That file is of
 /// no form that is built.
-fn refusal_at(alloc: Global, folder: &Folder, path: &Text) -> WeaveFault
+fn refusal_at(alloc: Global, folder: &Folder, side: Side, path: &Text) -> WeaveFault
     ensures { (files : List File) → PassesLimit files path.now → Refuses files folder.now result }
 {
-    match weave(alloc, folder, Side::Client) {
+    match weave(alloc, folder, side) {
         Ok(_) => out_of_form(alloc, path),
         Err(WeaveFault::Broken(broken)) => first_of(alloc, broken, path),
         Err(WeaveFault::Memory) => WeaveFault::Memory,
     }
 }
 
-/// Weaves what was read.
-pub(crate) fn weave_reading(alloc: Global, reading: &Reading) -> Result<Woven, WeaveFault>
+/// Weaves what was read for a side.
+pub(crate) fn weave_reading(
+    alloc: Global,
+    reading: &Reading,
+    side: Side,
+) -> Result<Woven, WeaveFault>
     ensures rules { (files : List File) → IsReadingOf files reading.now → Weaves files result }
     ensures one_edit { IfOk result IsOneEdit }
 {
     match &reading.passed {
-        None => weave(alloc, &reading.folder, Side::Client),
-        Some(path) => Err(refusal_at(alloc, &reading.folder, path)),
+        None => weave(alloc, &reading.folder, side),
+        Some(path) => Err(refusal_at(alloc, &reading.folder, side, path)),
     }
 }

@@ -31,8 +31,9 @@ fn write_refusal<S: Sink>(sink: &mut S, broken: &Broken) -> Result<(), SinkFault
     sink.write(&line[..length])
 }
 
-/// Does what the words say, of which the first is the program's name: `weave FOLDER --out DIR` reads
-/// the folder, weaves it, puts the written classes and writes one summary line.
+/// Does what the words say, of which the first is the program's name: `weave FOLDER --out DIR`, and
+/// maybe `--side client` or `--side server` behind it, reads the folder, weaves it for the side, puts
+/// the written classes and writes one summary line.
 ///
 /// Everything is read before a rule is asked, and every rule is asked before a file is put.
 pub fn loader<T: Tree, O: Outlet, S: Sink>(
@@ -63,7 +64,7 @@ pub fn loader<T: Tree, O: Outlet, S: Sink>(
         Err(IoFault::Failed) => return Status::ReadFault,
         Err(IoFault::Memory) => return Status::Memory,
     };
-    let woven = match weave_reading(alloc, &reading) {
+    let woven = match weave_reading(alloc, &reading, command.side) {
         Ok(woven) => woven,
         Err(WeaveFault::Broken(broken)) => {
             return match write_refusal(sink, &broken) {

@@ -26,7 +26,7 @@ returns-in-Err-Broken-clause-rules g c =
     let rules = rw c.in-Err-Broken.field-0-is at c.in-Err-Broken.ensures.rules in
     let first = weaves_told told c.in-Some.command.folder.now c.in-Ok-read_folder.reading (Err (faults.Broken c.in-Err-Broken.broken)) c.in-Ok-read_folder.ensures.read rules in
     let asked = command_of (texts c.args.words.now) in
-    let command : Command = record { folder = c.in-Some.command.folder.now; out = c.in-Some.command.out.now } in
+    let command : Command = record { folder = c.in-Some.command.folder.now; out = c.in-Some.command.out.now; side = c.in-Some.command.side } in
     elim c.match-write_refusal.branch [
       | in-Ok-write_refusal w ↦ rw w.result-is (refused_rules asked command told c.in-Some.ensures c.in-Err-Broken.broken first)
       | in-Err-write_refusal w ↦ rw w.result-is (failed_rules asked command told c.in-Some.ensures)
@@ -38,7 +38,7 @@ returns-in-Err-Broken-clause-printed g c =
     let rules = rw c.in-Err-Broken.field-0-is at c.in-Err-Broken.ensures.rules in
     let first = weaves_told told c.in-Some.command.folder.now c.in-Ok-read_folder.reading (Err (faults.Broken c.in-Err-Broken.broken)) c.in-Ok-read_folder.ensures.read rules in
     let asked = command_of (texts c.args.words.now) in
-    let command : Command = record { folder = c.in-Some.command.folder.now; out = c.in-Some.command.out.now } in
+    let command : Command = record { folder = c.in-Some.command.folder.now; out = c.in-Some.command.out.now; side = c.in-Some.command.side } in
     let before = g.S.Sink.told c.args.sink.now in
     let now = g.S.Sink.told c.write_refusal.new.sink in
     elim c.match-write_refusal.branch [
@@ -53,20 +53,20 @@ returns-in-Err-Failed-put_files-clause-puts g c =
     let told = g.T.Tree.told c.args.tree.now in
     let woven = weaves_told told c.in-Some.command.folder.now c.in-Ok-read_folder.reading (Ok c.in-Ok-weave_reading.woven) c.in-Ok-read_folder.ensures.read c.in-Ok-weave_reading.ensures.rules in
     let put = c.in-Err-Failed-put_files.ensures.err in
-    failed_puts (command_of (texts c.args.words.now)) (record { folder = c.in-Some.command.folder.now; out = c.in-Some.command.out.now }) told c.in-Some.ensures c.in-Ok-weave_reading.woven.files woven (g.O.Outlet.told c.args.outlet.now) (g.O.Outlet.told c.put_files.new.outlet) put.0 c.in-Err-Failed-put_files.ensures.order put.1
+    failed_puts (command_of (texts c.args.words.now)) (record { folder = c.in-Some.command.folder.now; out = c.in-Some.command.out.now; side = c.in-Some.command.side }) told c.in-Some.ensures c.in-Ok-weave_reading.woven.files woven (g.O.Outlet.told c.args.outlet.now) (g.O.Outlet.told c.put_files.new.outlet) put.0 c.in-Err-Failed-put_files.ensures.order put.1
 
 pub returns-in-Err-Failed-put_files-clause-printed : goal.returns-in-Err-Failed-put_files-clause-printed
 returns-in-Err-Failed-put_files-clause-printed g c =
     let told = g.T.Tree.told c.args.tree.now in
     let woven = weaves_told told c.in-Some.command.folder.now c.in-Ok-read_folder.reading (Ok c.in-Ok-weave_reading.woven) c.in-Ok-read_folder.ensures.read c.in-Ok-weave_reading.ensures.rules in
-    puts_failed (command_of (texts c.args.words.now)) (record { folder = c.in-Some.command.folder.now; out = c.in-Some.command.out.now }) told c.in-Some.ensures c.in-Ok-weave_reading.woven.files woven (g.S.Sink.told c.args.sink.now)
+    puts_failed (command_of (texts c.args.words.now)) (record { folder = c.in-Some.command.folder.now; out = c.in-Some.command.out.now; side = c.in-Some.command.side }) told c.in-Some.ensures c.in-Ok-weave_reading.woven.files woven (g.S.Sink.told c.args.sink.now)
 
 pub returns-in-Err-Memory-put_files-clause-puts : goal.returns-in-Err-Memory-put_files-clause-puts
 returns-in-Err-Memory-put_files-clause-puts g c =
     let told = g.T.Tree.told c.args.tree.now in
     let woven = weaves_told told c.in-Some.command.folder.now c.in-Ok-read_folder.reading (Ok c.in-Ok-weave_reading.woven) c.in-Ok-read_folder.ensures.read c.in-Ok-weave_reading.ensures.rules in
     let put = c.in-Err-Memory-put_files.ensures.err in
-    starved_puts (command_of (texts c.args.words.now)) (record { folder = c.in-Some.command.folder.now; out = c.in-Some.command.out.now }) told c.in-Some.ensures c.in-Ok-weave_reading.woven.files woven (g.O.Outlet.told c.args.outlet.now) (g.O.Outlet.told c.put_files.new.outlet) put.0 c.in-Err-Memory-put_files.ensures.order put.1
+    starved_puts (command_of (texts c.args.words.now)) (record { folder = c.in-Some.command.folder.now; out = c.in-Some.command.out.now; side = c.in-Some.command.side }) told c.in-Some.ensures c.in-Ok-weave_reading.woven.files woven (g.O.Outlet.told c.args.outlet.now) (g.O.Outlet.told c.put_files.new.outlet) put.0 c.in-Err-Memory-put_files.ensures.order put.1
 
 -- ---- All files put
 
@@ -74,19 +74,19 @@ pub returns-in-Ok-write-clause-rules : goal.returns-in-Ok-write-clause-rules
 returns-in-Ok-write-clause-rules g c =
     let told = g.T.Tree.told c.args.tree.now in
     let woven = weaves_told told c.in-Some.command.folder.now c.in-Ok-read_folder.reading (Ok c.in-Ok-weave_reading.woven) c.in-Ok-read_folder.ensures.read c.in-Ok-weave_reading.ensures.rules in
-    done_rules (command_of (texts c.args.words.now)) (record { folder = c.in-Some.command.folder.now; out = c.in-Some.command.out.now }) told c.in-Some.ensures c.in-Ok-weave_reading.woven.files woven
+    done_rules (command_of (texts c.args.words.now)) (record { folder = c.in-Some.command.folder.now; out = c.in-Some.command.out.now; side = c.in-Some.command.side }) told c.in-Some.ensures c.in-Ok-weave_reading.woven.files woven
 
 pub returns-in-Ok-write-clause-puts : goal.returns-in-Ok-write-clause-puts
 returns-in-Ok-write-clause-puts g c =
     let told = g.T.Tree.told c.args.tree.now in
     let woven = weaves_told told c.in-Some.command.folder.now c.in-Ok-read_folder.reading (Ok c.in-Ok-weave_reading.woven) c.in-Ok-read_folder.ensures.read c.in-Ok-weave_reading.ensures.rules in
-    done_puts (command_of (texts c.args.words.now)) (record { folder = c.in-Some.command.folder.now; out = c.in-Some.command.out.now }) told c.in-Some.ensures c.in-Ok-weave_reading.woven.files woven (g.O.Outlet.told c.args.outlet.now) (g.O.Outlet.told c.put_files.new.outlet) c.in-Ok-put_files.ensures.order c.in-Ok-put_files.ensures.ok
+    done_puts (command_of (texts c.args.words.now)) (record { folder = c.in-Some.command.folder.now; out = c.in-Some.command.out.now; side = c.in-Some.command.side }) told c.in-Some.ensures c.in-Ok-weave_reading.woven.files woven (g.O.Outlet.told c.args.outlet.now) (g.O.Outlet.told c.put_files.new.outlet) c.in-Ok-put_files.ensures.order c.in-Ok-put_files.ensures.ok
 
 pub returns-clause-puts : goal.returns-clause-puts
 returns-clause-puts g c =
     let told = g.T.Tree.told c.args.tree.now in
     let woven = weaves_told told c.in-Some.command.folder.now c.in-Ok-read_folder.reading (Ok c.in-Ok-weave_reading.woven) c.in-Ok-read_folder.ensures.read c.in-Ok-weave_reading.ensures.rules in
-    failed_puts (command_of (texts c.args.words.now)) (record { folder = c.in-Some.command.folder.now; out = c.in-Some.command.out.now }) told c.in-Some.ensures c.in-Ok-weave_reading.woven.files woven (g.O.Outlet.told c.args.outlet.now) (g.O.Outlet.told c.put_files.new.outlet) (length c.in-Ok-weave_reading.woven.files) c.in-Ok-put_files.ensures.order
+    failed_puts (command_of (texts c.args.words.now)) (record { folder = c.in-Some.command.folder.now; out = c.in-Some.command.out.now; side = c.in-Some.command.side }) told c.in-Some.ensures c.in-Ok-weave_reading.woven.files woven (g.O.Outlet.told c.args.outlet.now) (g.O.Outlet.told c.put_files.new.outlet) (length c.in-Ok-weave_reading.woven.files) c.in-Ok-put_files.ensures.order
     (all_added c.in-Some.command.out.now c.in-Ok-weave_reading.woven.files (g.O.Outlet.told c.args.outlet.now) (g.O.Outlet.told c.put_files.new.outlet) c.in-Ok-put_files.ensures.ok)
 
 pub returns-clause-printed : goal.returns-clause-printed
@@ -94,4 +94,4 @@ returns-clause-printed g c =
     let told = g.T.Tree.told c.args.tree.now in
     let woven = weaves_told told c.in-Some.command.folder.now c.in-Ok-read_folder.reading (Ok c.in-Ok-weave_reading.woven) c.in-Ok-read_folder.ensures.read c.in-Ok-weave_reading.ensures.rules in
     let line = c.as_bytes.ensures.value ∙ c.in-Ok-summary_line.ensures.line ∙ form_line c.in-Ok-weave_reading.woven c.in-Ok-weave_reading.ensures.one_edit in
-    summary_failed (command_of (texts c.args.words.now)) (record { folder = c.in-Some.command.folder.now; out = c.in-Some.command.out.now }) told c.in-Some.ensures c.in-Ok-weave_reading.woven.files woven (g.S.Sink.told c.args.sink.now) (g.S.Sink.told c.write-2.new.self) c.as_bytes.result.now line c.in-Err-write.ensures.err
+    summary_failed (command_of (texts c.args.words.now)) (record { folder = c.in-Some.command.folder.now; out = c.in-Some.command.out.now; side = c.in-Some.command.side }) told c.in-Some.ensures c.in-Ok-weave_reading.woven.files woven (g.S.Sink.told c.args.sink.now) (g.S.Sink.told c.write-2.new.self) c.as_bytes.result.now line c.in-Err-write.ensures.err
