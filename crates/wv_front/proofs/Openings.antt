@@ -20,6 +20,7 @@ use Rattle.wv_front.specs.declared.fault.WeaveFault.TheVariants as fault
 use Rattle.wv_front.specs.declared.limit.Limit.{Limit}
 use Rattle.wv_front.specs.declared.limit.Cut.{Cut}
 use Rattle.wv_front.specs.Opening.{PassesAt, HasJar, jar_file, LacksGame, game_missing, HasBadGame, HasTooMuch, IsFirstUnlisted, too_much, BreaksOpening, opening_rules, Everywhere, IsOpened, IsFirstUnopened, IsBeforeCut, IsCutAt, IsFirstCut, IsBrokenFault}
+use Rattle.wv_front.specs.FilesRead.{IsReached, AreOpened, IsFirstOfFiles}
 use Rattle.wv_front.proofs.Limits.{one-passing}
 
 path-of : (broken other : Broken) → broken ≡ other → broken.place.file ≡ other.place.file
@@ -190,3 +191,10 @@ one-first_cut folder cut broken other g h =
 
 pub opened-not_first : (folder : List File) (broken : Broken) → IsOpened folder → IsFirstUnopened folder broken → ⊥
 opened-not_first folder broken kept first = kept-not_first (BreaksOpening Everywhere (PassesAt folder) folder) opening_rules broken kept first
+
+pub one-of_files : (files : List File) (broken other : Broken) → IsFirstOfFiles files broken → IsFirstOfFiles files other → broken ≡ other
+one-of_files files broken other g h =
+    one-first_of (BreaksOpening (IsReached files) (PassesAt files) files) (rule-one (IsReached files) (PassesAt files) files (one-passing files)) opening_rules broken other g h
+
+pub files-not_first : (files : List File) (broken : Broken) → AreOpened files → IsFirstOfFiles files broken → ⊥
+files-not_first files broken kept first = kept-not_first (BreaksOpening (IsReached files) (PassesAt files) files) opening_rules broken kept first

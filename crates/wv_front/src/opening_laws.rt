@@ -20,12 +20,16 @@ pub fn one_opening_refusal()
         → IsFirstUnopened folder broken → IsFirstUnopened folder other → broken ≡ other }
     ensures ended_early { (folder : List File) (cut : Cut) (broken other : Broken)
         → IsFirstCut folder cut broken → IsFirstCut folder cut other → broken ≡ other }
+    ensures of_files { (files : List File) (broken other : Broken)
+        → IsFirstOfFiles files broken → IsFirstOfFiles files other → broken ≡ other }
 {}
 
 /// A folder that is opened breaks none of these rules.
 pub fn opened_or_refused()
-    ensures { (folder : List File) (broken : Broken)
+    ensures whole { (folder : List File) (broken : Broken)
         → IsOpened folder → IsFirstUnopened folder broken → ⊥ }
+    ensures of_files { (files : List File) (broken : Broken)
+        → AreOpened files → IsFirstOfFiles files broken → ⊥ }
 {}
 
 /// What a folder is told of, that is read of files, holds of the files: where it is read to its end, and
