@@ -1,4 +1,6 @@
 //! Why a folder isn't woven.
+ghost use Rattle.std.specs.Prelude.{◌≡◌};
+
 use std::alloc::AllocError;
 use thiserror::Error;
 use wv_base::{Broken, Memory};

@@ -1,0 +1,10 @@
+pub mod Firsts
+pub mod Missing
+pub mod FirstOnes
+pub mod OneMissing
+pub mod Keys
+pub mod Grown
+pub mod Namings
+pub mod FirstEach
+pub mod OneOrder
+pub mod OneMark
