@@ -1,11 +1,11 @@
 -- Of ordered namings the first of each class, and that these are the mixins that are applied, in order.
-use Rattle.std.proofs.Common.{◌≡◌, ◌≢◌, ◌↔◌, ◌⊎◌, inl, inr, ℕ, ◌+◌, ◌<◌, ◌≤◌, Bool, true, false, not, ◌||◌, List, [], ◌∷◌, ◌++◌, length, get_or, All, Any, AllPairs, Contains, refl, ap, sym, ◌∙◌, subst, arith, true≢false, length-append}
+use Rattle.std.proofs.Common.{◌≡◌, ◌≢◌, ◌↔◌, ◌⊎◌, inl, inr, ℕ, ◌+◌, ◌<◌, ◌≤◌, Bool, true, false, not, ◌||◌, List, [], ◌∷◌, ◌++◌, length, get_or, take, All, Any, AllPairs, Contains, Result, Ok, Err, IfOk, refl, ap, sym, ◌∙◌, subst, arith, true≢false, length-append}
 use Rattle.std.specs.BTreeSet.{BTreeSet, contains, Updates}
 use Rattle.std.specs.List.{list_any}
 use Rattle.std.specs.Ordering.{nat_cmp, is_eq}
 use Rattle.std.specs.Prelude.{nat_lt, ◌==◌}
 use Rattle.std.proofs.lemmas.Bool.{cases_Bool}
-use Rattle.std.proofs.lemmas.List.{get_or_default, get_or_append_left, get_or_at}
+use Rattle.std.proofs.lemmas.List.{get_or_default}
 use Rattle.std.proofs.lemmas.List.Elements.{All-push, All-contains, Contains-push, Contains-append_left}
 use Rattle.std.proofs.lemmas.List.Folds.{list_any-append, Any-from_list_any, list_any-from_Any}
 use Rattle.std.proofs.lemmas.List.Quantifiers.{Any-push, all_pairs_push}
@@ -13,7 +13,7 @@ use Rattle.std.proofs.lemmas.List.Sorted.{Contains-permutation, IsPermutation-sy
 use Rattle.wv_base.specs.declared.side.Side.{Side}
 use Rattle.wv_classes.specs.declared.loaded_class.LoadedClass.{LoadedClass}
 use Rattle.wv_config.specs.declared.loaded.LoadedConfig.{LoadedConfig}
-use Rattle.wv_resolve.proofs.Lists.{any-append, same-of-pairs}
+use Rattle.wv_resolve.proofs.Lists.{front-more, any-append, same-of-pairs, all-before}
 use Rattle.wv_front.specs.declared.order.AppliedMixin.{AppliedMixin}
 use Rattle.wv_front.specs.MixinOrder.{IsNaming, IsBefore, IsApplied, AreApplied, AreOrdered}
 use Rattle.wv_front.specs.Naming.{NotBefore, AreFirsts, IsSortedOf}
@@ -41,12 +41,14 @@ firsts-none = record {
 Covers : List AppliedMixin → AppliedMixin → Type 0
 Covers mixins naming = Any (λ mixin. (mixin.class_place ≡ naming.class_place) × NotBefore mixin naming) mixins
 
--- of ordered namings those before a place aren't after the one there
-pub not-after : (xs rest : List AppliedMixin) (x : AppliedMixin) → AllPairs NotBefore (xs ++ x ∷ rest) → All (λ y. NotBefore y x) xs
-not-after xs rest x pairs k d inside =
-    subst (λ (y : AppliedMixin). NotBefore y x) (get_or_append_left xs (x ∷ rest) d k inside)
-    (subst (NotBefore (get_or (xs ++ x ∷ rest) k d)) (get_or_at xs x rest d (length xs) refl)
-    (pairs k (length xs) d inside (omega (arith, length-append xs (x ∷ rest)))))
+-- one more of those that were gone over
+pub yielded-more : (all xs : List AppliedMixin) (x : AppliedMixin) → xs ≡ take (length xs) all → (length xs < length all) × (x ≡ get_or all (length xs) x) → xs ++ x ∷ [] ≡ take (length (xs ++ x ∷ [])) all
+yielded-more all xs x so_far (inside, at) =
+    ap (λ ys. ys ++ x ∷ []) so_far ∙ sym (front-more all (length xs) x inside at) ∙ ap (λ n. take n all) (sym (length-append xs (x ∷ [])))
+
+-- in order, none of them is after it
+pub yielded-before : (all xs : List AppliedMixin) (x : AppliedMixin) → AllPairs NotBefore all → xs ≡ take (length xs) all → (length xs < length all) × (x ≡ get_or all (length xs) x) → All (λ y. NotBefore y x) xs
+yielded-before all xs x pairs so_far (inside, at) = subst (All (λ y. NotBefore y x)) (sym so_far) (all-before NotBefore all (length xs) x pairs inside at)
 
 module _ (xs : List AppliedMixin) (x : AppliedMixin) (mixins : List AppliedMixin) (before : All (λ y. NotBefore y x) xs) (h : AreFirsts xs mixins) where
   there : All (Contains (xs ++ x ∷ [])) mixins
@@ -76,7 +78,7 @@ module _ (xs : List AppliedMixin) (x : AppliedMixin) (mixins : List AppliedMixin
 
 -- ---- The places that were seen
 
-is_at : ℕ → AppliedMixin → Bool
+pub is_at : ℕ → AppliedMixin → Bool
 is_at place mixin = mixin.class_place == place
 
 -- the places of the mixins' classes
@@ -122,16 +124,41 @@ seen-more old new mixins x updates h = record {
   ];
 }
 
-pub seen-class : (seen : BTreeSet ℕ) (mixins : List AppliedMixin) (place : ℕ) → HasSeen seen mixins → contains nat_cmp seen place ≡ true → HasClass mixins place
+seen-true : (seen : BTreeSet ℕ) (mixins : List AppliedMixin) (place : ℕ) → HasSeen seen mixins → contains nat_cmp seen place ≡ true → HasClass mixins place
 unfolding is_at
-seen-class seen mixins place h e =
+seen-true seen mixins place h e =
     let (k, m, inside, at, same) = Any-from_list_any (is_at place) mixins (sym (h.exact place) ∙ e) in
     (k, m, inside, at, is-number m.class_place place same)
 
-pub unseen-class : (seen : BTreeSet ℕ) (mixins : List AppliedMixin) (place : ℕ) → HasSeen seen mixins → contains nat_cmp seen place ≡ false → HasClass mixins place → ⊥
+seen-false : (seen : BTreeSet ℕ) (mixins : List AppliedMixin) (place : ℕ) → HasSeen seen mixins → contains nat_cmp seen place ≡ false → HasClass mixins place → ⊥
 unfolding is_at
-unseen-class seen mixins place h e (k, m, inside, at, same) =
+seen-false seen mixins place h e (k, m, inside, at, same) =
     true≢false (sym (list_any-from_Any (is_at place) mixins (k, m, inside, at, equal-number m.class_place place same)) ∙ sym (h.exact place) ∙ e)
+
+unless-there : (there added : Bool) → added ≡ not there → added ≡ false → there ≡ true
+unless-there true added e f = refl
+unless-there false added e f = absurd (true≢false (sym e ∙ f))
+
+unless-new : (there added : Bool) → added ≡ not there → added ≡ true → there ≡ false
+unless-new true added e f = absurd (true≢false (sym f ∙ e))
+unless-new false added e f = refl
+
+-- whether a place was new
+pub seen-class : (seen : BTreeSet ℕ) (mixins : List AppliedMixin) (place : ℕ) (added : Bool) → HasSeen seen mixins → added ≡ not (contains nat_cmp seen place) → added ≡ false → HasClass mixins place
+seen-class seen mixins place added h e f = seen-true seen mixins place h (unless-there (contains nat_cmp seen place) added e f)
+
+pub unseen-class : (seen : BTreeSet ℕ) (mixins : List AppliedMixin) (place : ℕ) (added : Bool) → HasSeen seen mixins → added ≡ not (contains nat_cmp seen place) → added ≡ true → HasClass mixins place → ⊥
+unseen-class seen mixins place added h e f = seen-false seen mixins place h (unless-new (contains nat_cmp seen place) added e f)
+
+pub seen-again : (old new : BTreeSet ℕ) (mixins : List AppliedMixin) (place : ℕ) (added : Bool) → Updates nat_cmp old new place true → HasSeen old mixins → added ≡ not (contains nat_cmp old place) → added ≡ false → HasSeen new mixins
+seen-again old new mixins place added updates h e f = record {
+  exact = λ other. elim (cases_Bool (is_eq (nat_cmp place other))) [
+    | inl tied ↦
+      let same : place ≡ other = same-number place other tied in
+      ap (contains nat_cmp new) (sym same) ∙ updates.1 ∙ sym (unless-there (contains nat_cmp old place) added e f) ∙ ap (contains nat_cmp old) same ∙ h.exact other
+    | inr apart ↦ updates.2 other apart ∙ h.exact other
+  ];
+}
 
 -- ---- All namings
 
@@ -181,3 +208,12 @@ sorted-named configs classes side namings sorted h named mixin = (
   λ there. (named mixin).0 (Contains-permutation sorted namings mixin (IsPermutation-sym namings sorted h.same) there),
   λ is. Contains-permutation namings sorted mixin h.same ((named mixin).1 is),
 )
+
+-- what is found is applied, and in order
+pub all-applied : {V E : Type 0} (items : V → List AppliedMixin) (configs : List LoadedConfig) (classes : List LoadedClass) (side : Side) (sorted : List AppliedMixin) (r : Result V E) → ((mixin : AppliedMixin) → Contains sorted mixin ↔ IsNaming configs classes side mixin) → IfOk r (λ v. AreFirsts sorted (items v)) → IfOk r (λ v. AreApplied configs classes side (items v))
+all-applied items configs classes side sorted (Err e) named h = tt
+all-applied items configs classes side sorted (Ok v) named h = are-applied configs classes side sorted named (items v) h
+
+pub all-ordered : {V E : Type 0} (items : V → List AppliedMixin) (configs : List LoadedConfig) (classes : List LoadedClass) (side : Side) (sorted : List AppliedMixin) (r : Result V E) → ((mixin : AppliedMixin) → Contains sorted mixin ↔ IsNaming configs classes side mixin) → IfOk r (λ v. AreFirsts sorted (items v)) → IfOk r (λ v. AreOrdered (items v))
+all-ordered items configs classes side sorted (Err e) named h = tt
+all-ordered items configs classes side sorted (Ok v) named h = are-ordered configs classes side sorted named (items v) h

@@ -1,5 +1,5 @@
 -- Namings: what an entry names, and what the entries of configurations name together.
-use Rattle.std.proofs.Common.{◌≡◌, ◌↔◌, ◌⊎◌, inl, inr, ℕ, ◌+◌, ◌<◌, ◌≤◌, List, [], ◌∷◌, ◌++◌, length, get_or, map, Contains, Option, Some, None, bytes_eq, refl, ap, sym, ◌∙◌, subst, arith}
+use Rattle.std.proofs.Common.{◌≡◌, ◌↔◌, ◌⊎◌, inl, inr, ℕ, zero, suc, ℤ, ◌+◌, ◌<◌, ◌≤◌, List, [], ◌∷◌, ◌++◌, length, get_or, map, Contains, Option, Some, None, Result, Ok, Err, OnOk, bytes_eq, refl, ap, sym, ◌∙◌, subst, arith}
 use Rattle.std.specs.List.{position}
 use Rattle.std.proofs.lemmas.List.{length-map}
 use Rattle.std.proofs.lemmas.List.Quantifiers.{position-Some}
@@ -55,10 +55,24 @@ naming-one configs classes side x y h g by_config by_entry =
 
 -- ---- An entry
 
-pub entry-named : (classes : List LoadedClass) (config_place : ℕ) (config : Config) (entry_place : ℕ) (entry : List ℕ) (namings : List AppliedMixin) (mixin : AppliedMixin) → IsEntryNaming classes config_place config entry_place entry mixin → Grows namings (namings ++ mixin ∷ []) (IsEntryNaming classes config_place config entry_place entry)
+entry-named : (classes : List LoadedClass) (config_place : ℕ) (config : Config) (entry_place : ℕ) (entry : List ℕ) (namings : List AppliedMixin) (mixin : AppliedMixin) → IsEntryNaming classes config_place config entry_place entry mixin → Grows namings (namings ++ mixin ∷ []) (IsEntryNaming classes config_place config entry_place entry)
 entry-named classes config_place config entry_place entry namings mixin is =
     grows-push namings mixin (IsEntryNaming classes config_place config entry_place entry) is
     (λ x h. names-one classes config entry x mixin h.2 is.2 (h.0 ∙ sym is.0) (h.1 ∙ sym is.1))
+
+some-stands : {A : Type 0} (xs : List A) (k : ℕ) → k < length xs → (x : A) × StandsAt xs k x
+some-stands [] k inside = absurd (omega arith)
+some-stands (x ∷ xs) zero inside = (x, (inside, refl))
+some-stands (x ∷ xs) (suc k) inside =
+    let (y, (within, at)) = some-stands xs k (omega arith) in
+    (y, (inside, at))
+
+pub entry-pushed : (classes : List LoadedClass) (config_place : ℕ) (config : Config) (entry_place : ℕ) (entry : List ℕ) (namings : List AppliedMixin) (name : List ℕ) (class_place : ℕ) (priority : ℤ) → name ≡ class_of config.«package» entry → position (bytes_eq name) (map loaded_name classes) ≡ Some class_place → ((class : LoadedClass) → StandsAt classes class_place class → priority ≡ priority_of config class) → Grows namings (namings ++ record { name = name; class_place = class_place; priority = priority; config_place = config_place; entry_place = entry_place } ∷ []) (IsEntryNaming classes config_place config entry_place entry)
+entry-pushed classes config_place config entry_place entry namings name class_place priority of_name first of_priority =
+    let found = some-stands classes class_place (place-inside classes name class_place first) in
+    entry-named classes config_place config entry_place entry namings
+    (record { name = name; class_place = class_place; priority = priority; config_place = config_place; entry_place = entry_place })
+    (refl, refl, record { of_name = of_name; first = first; class = found.0; of_class = found.1; of_priority = of_priority found.0 found.1 })
 
 pub entry-unnamed : (classes : List LoadedClass) (config_place : ℕ) (config : Config) (entry_place : ℕ) (entry name : List ℕ) (namings : List AppliedMixin) → name ≡ class_of config.«package» entry → position (bytes_eq name) (map loaded_name classes) ≡ None → Grows namings namings (IsEntryNaming classes config_place config entry_place entry)
 entry-unnamed classes config_place config entry_place entry name namings of_name none =
@@ -72,6 +86,10 @@ config-named classes side config_place config entries xs ys zs same g h =
     grows-both xs ys zs (AreEntryNamings classes config_place config config.mixins 0) (AreEntryNamings classes config_place config entries (length config.mixins)) (AreConfigNamings classes side config_place config) g h
     (λ x. subst (λ (es : List (List ℕ)). AreConfigNamings classes side config_place config x ↔ (AreEntryNamings classes config_place config config.mixins 0 x ⊎ AreEntryNamings classes config_place config es (length config.mixins) x)) (sym same)
     (of-append (IsEntryNaming classes config_place config) config.mixins (side_entries side config) x))
+
+pub configs-named : {E : Type 0} (classes : List LoadedClass) (side : Side) (config_place : ℕ) (config : Config) (entries : List (List ℕ)) (xs ys zs : List AppliedMixin) (r : Result (Unit {0}) E) → entries ≡ side_entries side config → Grows xs ys (AreEntryNamings classes config_place config config.mixins 0) → OnOk r (Grows ys zs (AreEntryNamings classes config_place config entries (length config.mixins))) → OnOk r (Grows xs zs (AreConfigNamings classes side config_place config))
+configs-named classes side config_place config entries xs ys zs (Err e) same g h = tt
+configs-named classes side config_place config entries xs ys zs (Ok x) same g h = config-named classes side config_place config entries xs ys zs same g h
 
 -- ---- All configurations
 

@@ -1,7 +1,8 @@
 //! The mixins of a folder in their order.
-ghost use Rattle.std.specs.Prelude.{◌≡◌, ◌↔◌, ◌<◌, ◌^◌, AllPairs, Contains, IfOk, OnOk};
+ghost use Rattle.std.specs.Prelude.{◌≡◌, ◌↔◌, ◌<◌, ◌^◌, length, AllPairs, Contains, IfOk, OnOk};
+ghost use Rattle.wv_classes.specs.declared.loaded_class.LoadedClass.{LoadedClass as Loaded};
 ghost use Rattle.wv_front.specs.declared.order.AppliedMixin.{AppliedMixin as Mixin};
-ghost use Rattle.wv_front.specs.MixinOrder.{IsNaming, AreApplied, AreOrdered, key_cmp};
+ghost use Rattle.wv_front.specs.MixinOrder.{StandsAt, IsNaming, AreApplied, AreOrdered, key_cmp, priority_of, side_entries};
 ghost use Rattle.wv_front.specs.Naming.{IsEntryNaming, AreEntryNamings, AreConfigNamings, Grows, NotBefore, AreFirsts, ArePlacesOf, IsSortedOf};
 
 use crate::places::ClassPlaces;
@@ -103,10 +104,7 @@ impl<'a> Namer<'a> {
     {
         let mixins = self.config.mixins.as_slice();
         self.add_entries(alloc, mixins, 0, namings)?;
-        let entries = match side {
-            Side::Client => self.config.client.as_slice(),
-            Side::Server => self.config.server.as_slice(),
-        };
+        let entries = side_entries(self.config, side);
         self.add_entries(alloc, entries, mixins.len(), namings)
     }
 
@@ -143,8 +141,7 @@ impl<'a> Namer<'a> {
     {
         let name = self.config.class_of(alloc, entry)?;
         if let Some(class_place) = self.places.place(&name) {
-            let class = &self.classes[class_place].class;
-            let priority = stated_priority(class).unwrap_or(self.config.mixin_priority);
+            let priority = self.priority(class_place);
             namings.push(AppliedMixin {
                 name,
                 class_place,
@@ -154,6 +151,26 @@ impl<'a> Namer<'a> {
             })?;
         }
         Ok(())
+    }
+
+    /// The priority of the class, as the configuration names it.
+    fn priority(&self, class_place: usize) -> i32
+        requires { class_place < length self.now.classes.now }
+        ensures { (class : Loaded) → StandsAt self.now.classes.now class_place class
+            → result ≡ priority_of self.now.config.now class }
+    {
+        let class = &self.classes[class_place].class;
+        stated_priority(class).unwrap_or(self.config.mixin_priority)
+    }
+}
+
+/// The entries of the configuration for one side alone.
+fn side_entries(config: &Config, side: Side) -> &[Text]
+    ensures { result.now ≡ side_entries side config.now }
+{
+    match side {
+        Side::Client => config.client.as_slice(),
+        Side::Server => config.server.as_slice(),
     }
 }
 
