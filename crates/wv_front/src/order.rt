@@ -141,26 +141,29 @@ impl<'a> Namer<'a> {
     {
         let name = self.config.class_of(alloc, entry)?;
         if let Some(class_place) = self.places.place(&name) {
-            let priority = self.priority(class_place);
-            namings.push(AppliedMixin {
-                name,
-                class_place,
-                priority,
-                config_place: self.config_place,
-                entry_place,
-            })?;
+            namings.push(self.naming(name, class_place, entry_place))?;
         }
         Ok(())
     }
 
-    /// The priority of the class, as the configuration names it.
-    fn priority(&self, class_place: usize) -> i32
+    /// The class, under the key by which the entry names it.
+    fn naming(&self, name: Text, class_place: usize, entry_place: usize) -> AppliedMixin
         requires { class_place < length self.now.classes.now }
-        ensures { (class : Loaded) → StandsAt self.now.classes.now class_place class
-            → result ≡ priority_of self.now.config.now class }
+        ensures name { result.name ≡ name }
+        ensures class { result.class_place ≡ class_place }
+        ensures config { result.config_place ≡ self.now.config_place }
+        ensures entry { result.entry_place ≡ entry_place }
+        ensures priority { (class : Loaded) → StandsAt self.now.classes.now class_place class
+            → result.priority ≡ priority_of self.now.config.now class }
     {
         let class = &self.classes[class_place].class;
-        stated_priority(class).unwrap_or(self.config.mixin_priority)
+        AppliedMixin {
+            name,
+            class_place,
+            priority: stated_priority(class).unwrap_or(self.config.mixin_priority),
+            config_place: self.config_place,
+            entry_place,
+        }
     }
 }
 

@@ -7,7 +7,7 @@ use Rattle.wv_front.proofs.order.first_of_each.Goals as goal
 pub loop-naming-preserved-in-Continue-branch-2 : goal.loop-naming-preserved-in-Continue-branch-2
 loop-naming-preserved-in-Continue-branch-2 c =
     let b = c.into_iter-naming-iterator.ensures.into_iter_gives in
-    let t = YieldsList-turn (YieldsList-from_vec {s = c.into_iter-naming-iterator.result} c.args.namings.items b.0 (b.1 ∙ c.args.namings.ok.0)) c.loop-naming.yielded _ c.loop-naming.yielded_by _ _ c.in-Some.naming c.in-Some.is c.next.ensures.steps in
+    let t = YieldsList-turn (YieldsList-from_vec {s = c.into_iter-naming-iterator.result} c.args.namings.items b.0 (b.1 ∙ c.args.namings.ok.0)) c.loop-naming.yielded c.loop-naming.naming-iterator c.loop-naming.yielded_by c.next.result c.next.new.self c.in-Some.naming c.in-Some.is c.next.ensures.steps in
     let before = yielded-before c.args.namings.items c.loop-naming.yielded c.in-Some.naming c.requires c.loop-naming.invariant.so_far t in
     let added : c.in_ok-insert.field-0 ≡ true = search (rules, tests) in
     record {
@@ -20,7 +20,7 @@ loop-naming-preserved-in-Continue-branch-2 c =
 pub loop-naming-preserved : goal.loop-naming-preserved
 loop-naming-preserved c =
     let b = c.into_iter-naming-iterator.ensures.into_iter_gives in
-    let t = YieldsList-turn (YieldsList-from_vec {s = c.into_iter-naming-iterator.result} c.args.namings.items b.0 (b.1 ∙ c.args.namings.ok.0)) c.loop-naming.yielded _ c.loop-naming.yielded_by _ _ c.in-Some.naming c.in-Some.is c.next.ensures.steps in
+    let t = YieldsList-turn (YieldsList-from_vec {s = c.into_iter-naming-iterator.result} c.args.namings.items b.0 (b.1 ∙ c.args.namings.ok.0)) c.loop-naming.yielded c.loop-naming.naming-iterator c.loop-naming.yielded_by c.next.result c.next.new.self c.in-Some.naming c.in-Some.is c.next.ensures.steps in
     let before = yielded-before c.args.namings.items c.loop-naming.yielded c.in-Some.naming c.requires c.loop-naming.invariant.so_far t in
     let added : c.in_ok-insert.field-0 ≡ false = search (rules, tests) in
     record {
