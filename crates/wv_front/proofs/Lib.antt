@@ -2,3 +2,13 @@ pub mod Limits
 pub mod Listing
 pub mod Openings
 pub mod FilesOpened
+pub mod Firsts
+pub mod Missing
+pub mod FirstOnes
+pub mod OneMissing
+pub mod Keys
+pub mod Grown
+pub mod Namings
+pub mod FirstEach
+pub mod OneOrder
+pub mod OneMark

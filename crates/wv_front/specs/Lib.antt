@@ -1,3 +1,10 @@
 pub mod Opening
 pub mod Allowance
 pub mod FilesRead
+pub mod Places
+pub mod Listed
+pub mod Listing
+pub mod Marks
+pub mod MixinOrder
+pub mod Naming
+pub mod Marked
