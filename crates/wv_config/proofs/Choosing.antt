@@ -73,7 +73,7 @@ module _ (done : List Entry) (entry : Entry) where
   }
     where
       its_used : (e : Entry) → GoesBefore e entry → e.is_used ≡ true
-      its_used e (inl (yes_used, no)) = yes_used
+      its_used e (inl (yes_used, unused)) = yes_used
       its_used e (inr (same, before)) = same ∙ used
 
   module _ (behind : All (λ other. IsBefore other entry) done) where
