@@ -1,15 +1,19 @@
 -- The configurations that the mods name, and the first rule that they break, from what was read.
 use Rattle.std.proofs.Common.{◌≡◌, ◌⊎◌, inl, inr, ℕ, ◌<◌, Bool, true, false, true≢false, List, [], ◌∷◌, ◌++◌, length, get_or, All, AllPairs, Any, Contains, Some, Result, Ok, Err, IfOk, IfErr, OnOk, IsPermutation, refl, ap, sym, ◌∙◌, subst, arith, lit<}
 use Rattle.std.specs.List.{slice_get}
-use Rattle.std.specs.Cmp.{IsTotalOrder}
+use Rattle.std.specs.Borrow.{Bor}
+use Rattle.std.specs.Cmp.{IsTotalOrder, IsStrictWeakOrder}
+use Rattle.std.specs.Fn.{Called, ComparesAs}
+use Rattle.std.specs.List.Sorted.{IsSortedByClosure}
 use Rattle.std.specs.Cmp.Lexicographic.{slice_cmp}
 use Rattle.std.specs.declared.cmp.Ordering.{Ordering}
 use Rattle.std.specs.declared.cmp.Ordering.TheVariants.{Less, Equal, Greater}
-use Rattle.std.specs.Ordering.{nat_cmp, int_cmp, ordering_then, ordering_reverse, is_eq, eq_by_cmp, MatchOrdering}
+use Rattle.std.specs.Ordering.{nat_cmp, int_cmp, ordering_then, ordering_reverse, is_eq, is_lt, eq_by_cmp, MatchOrdering}
 use Rattle.std.proofs.lemmas.Bool.{cases_order}
 use Rattle.std.proofs.lemmas.Cmp.{nat_list_cmp_total, nat_cmp_total, int_cmp_total, then_total, on_total, eq_by_cmp_equiv, tied_itself, ranked}
 use Rattle.std.proofs.lemmas.List.Elements.{All-contains, All-weaker}
-use Rattle.std.proofs.lemmas.List.Sorted.{All-permutation, Contains-permutation}
+use Rattle.std.proofs.lemmas.Fn.{always_returns_same}
+use Rattle.std.proofs.lemmas.List.Sorted.{All-permutation, Contains-permutation, ranks_by, sorted_far}
 use Rattle.std.proofs.lemmas.Map.Keys.{IsDistinct-IsPermutation, IsDistinct-from_apart, apart_from_distinct}
 use Rattle.wv_base.specs.declared.broken.Broken.{Broken}
 use Rattle.wv_base.specs.declared.rule.Rule.{Rule}
@@ -27,14 +31,15 @@ use Rattle.wv_config.specs.declared.loaded.Configs.{Configs}
 use Rattle.wv_config.specs.declared.loaded.LoadedConfig.{LoadedConfig}
 use Rattle.wv_config.specs.declared.naming.Entry.{Entry}
 use Rattle.wv_config.specs.Config.{IsConfigBroken, no_object, wrong_key, plugin}
-use Rattle.wv_config.specs.Entries.{IsEntry, Stands, AreNamed}
+use Rattle.wv_config.specs.Entries.{IsEntry, Stands, AreEntriesTo, AreChosen, AreNamed}
 use Rattle.wv_config.specs.Fault.{IsFaultOf}
-use Rattle.wv_config.specs.Finding.{IsLoadedOf, AreLoadedOf, IsFlawAt, IsFlawAmong, IsFirstFlaw, AreRead}
+use Rattle.wv_config.specs.Finding.{IsLoadedOf, AreLoadedOf, IsFlawAt, IsFlawAmong, IsFirstFlaw, AreRead, AreReadOf, IsFirstFlawOf}
 use Rattle.wv_config.specs.Loading.{IsReadFrom, IsRead, used_order, AreUsed, AreOthers, AreConfigs}
 use Rattle.wv_config.specs.Naming.{folder_of, IsEarlier, Names, Anywhere, IsNamed, IsNamedFor, IsFirstNaming, IsUsedAt, IsOtherAt, StandsAt}
 use Rattle.wv_config.specs.Reading.{IsConfigIn, IsFlaw, BreaksRule, IsFirstConfigBroken, AreConfigsKept}
-use Rattle.wv_config.proofs.Standing.{same-mod, same-mixin}
+use Rattle.wv_config.proofs.Standing.{same-mod, same-mixin, are-named}
 use Rattle.wv_config.proofs.Reading.{read-not_flawed}
+use denote.Param.Members.{Mut}
 
 -- ---- A configuration stands at one entry
 
@@ -103,6 +108,21 @@ same-path c d = eq_by_cmp (slice_cmp nat_cmp) c.path d.path
 
 true-false : (b : Bool) → b ≡ true → b ≡ false → ⊥
 true-false b t f = true≢false (sym t ∙ f)
+
+-- what a sort ensures whose closure compares in this order
+pub sorted-used : {F E : Type 0} (g : Mut F (Bor LoadedConfig × (Bor LoadedConfig × Unit {0})) Ordering) (f : F) (used : List LoadedConfig) (r : Result (Unit {0}) E) → OnOk r (IsSortedByClosure g f used) → ((a : Bor LoadedConfig × (Bor LoadedConfig × Unit {0})) (o : Ordering) (f' : F) → Called g f a o f' → (o ≡ used_order a.0.now a.1.0.now) × (f' ≡ f)) → OnOk r (AllPairs (λ config later. used_order later config ≡ Less → ⊥) used)
+sorted-used g f used (Err e) sorted says = tt
+sorted-used {F} g f used (Ok x) sorted says = λ i j d below inside less.
+    true-false (lt (get_or used j d) (get_or used i d)) (ap is_lt less) (sorted_far lt weak used (sorted lt weak compares) i j d (omega arith) inside)
+  where
+    lt : LoadedConfig → LoadedConfig → Bool
+    lt a b = is_lt (used_order a b)
+
+    weak : IsStrictWeakOrder lt
+    weak = ranks_by total (λ c. c)
+
+    compares : ComparesAs g lt f
+    compares = always_returns_same _ _ _ (λ a o f' k. (ap is_lt (says a o f' k).0, (says a o f' k).1))
 
 -- ---- What was read at the entries
 
@@ -323,3 +343,28 @@ module _ (files : List File) (side : Side) (mods : List ModInfo) (configs : Conf
 
   pub loaded-kept : AreConfigsKept files side mods
   loaded-kept = (none-broken ConfigMissing, (none-broken ConfigBad, (none-broken PluginNamed, (none-broken RefmapBad, tt))))
+
+-- ---- What was answered
+
+module _ (files : List File) (entries chosen : List Entry) (are : AreChosen entries chosen) where
+  pub all-read : (r : Result Configs ConfigFault) → IfOk r (λ configs. AreRead files chosen configs.used.items configs.others.items) → IfOk r (AreReadOf files entries)
+  all-read (Ok configs) h = (chosen, are, h)
+  all-read (Err f) h = tt
+
+  pub all-flawed : (r : Result Configs ConfigFault) → IfErr r (IsFaultOf (IsFirstFlaw files chosen)) → IfErr r (IsFaultOf (IsFirstFlawOf files entries))
+  all-flawed (Ok configs) h = tt
+  all-flawed (Err fault.Memory) h = tt
+  all-flawed (Err (fault.Broken broken)) h = (chosen, are, h)
+
+module _ (files : List File) (side : Side) (mods : List ModInfo) (entries : List Entry) (h : AreEntriesTo side mods (length mods) 0 entries) where
+  pub configs-fault : (f : ConfigFault) → IsFaultOf (IsFirstFlawOf files entries) f → IsFaultOf (IsFirstConfigBroken files side mods) f
+  configs-fault fault.Memory flaw = tt
+  configs-fault (fault.Broken broken) (chosen, are, first) = flaw-fault files side mods chosen (are-named side mods entries h chosen are) (fault.Broken broken) first
+
+  pub configs-loaded : (configs sorted : Configs) → AreReadOf files entries configs → IsPermutation configs.used.items sorted.used.items → AllPairs (λ config later. used_order later config ≡ Less → ⊥) sorted.used.items → configs.others.items ≡ sorted.others.items → AreConfigs files side mods sorted
+  configs-loaded configs sorted (chosen, are, read) same ordered others =
+      let named = are-named side mods entries h chosen are in
+      record {
+        used = are-used files side mods chosen named configs.used.items read.used_read sorted.used.items same ordered;
+        others = subst (AreOthers files side mods) others (are-others files side mods chosen named configs.others.items read.others_read);
+      }

@@ -1,10 +1,10 @@
 -- What configurations say, as they are read in turn, or the first rule that they break.
-use Rattle.std.proofs.Common.{◌≡◌, ◌⊎◌, inl, inr, ℕ, ◌+◌, ◌<◌, Bool, true, false, true≢false, List, [], ◌∷◌, ◌++◌, length, get_or, take, map, All, Any, Contains, Result, Ok, Err, IfOk, IfErr, MatchResult, Option, Some, None, MatchOption, IfSome, IsSomeAnd, refl, ap, sym, ◌∙◌, subst, arith}
+use Rattle.std.proofs.Common.{◌≡◌, ◌⊎◌, inl, inr, ℕ, ◌+◌, ◌<◌, ◌≤◌, Bool, true, false, true≢false, List, [], ◌∷◌, ◌++◌, length, get_or, take, map, All, Any, Contains, Result, Ok, Err, IfOk, IfErr, MatchResult, Option, Some, None, MatchOption, IfSome, IsSomeAnd, refl, ap, sym, ◌∙◌, subst, arith}
 use Rattle.std.specs.Borrow.{Bor}
 use Rattle.std.specs.Option.{option_and_then}
 use Rattle.std.specs.Prelude.{codes}
 use Rattle.std.proofs.lemmas.Bool.{cases_Bool}
-use Rattle.std.proofs.lemmas.List.{get_or_default}
+use Rattle.std.proofs.lemmas.List.{get_or-map, length-map, take_all}
 use Rattle.std.proofs.lemmas.List.Elements.{All-contains, All-push, All-weaker, Contains-push_cases}
 use Rattle.std.proofs.lemmas.List.Quantifiers.{Any-push, all_pairs_push}
 use Rattle.wv_base.specs.declared.broken.Broken.{Broken}
@@ -12,7 +12,7 @@ use Rattle.wv_base.specs.declared.rule.Rule.TheVariants.{RefmapBad}
 use Rattle.wv_base.specs.Folder.{File, IsPathBefore}
 use Rattle.wv_base.specs.Rule.{number_of}
 use Rattle.wv_resolve.proofs.Folders.{any-push_cases}
-use Rattle.wv_resolve.proofs.Lists.{any-append, front-more}
+use Rattle.wv_resolve.proofs.Lists.{any-append, front-more, all-before}
 use Rattle.wv_resolve.proofs.Paths.{not-before_itself, before-step}
 use Rattle.wv_config.specs.declared.config.Config.{Config}
 use Rattle.wv_config.specs.declared.loaded.LoadedConfig.{LoadedConfig}
@@ -20,6 +20,7 @@ use Rattle.wv_config.specs.declared.naming.Entry.{Entry}
 use Rattle.wv_config.specs.declared.refmap.Refmap.{Refmap}
 use Rattle.wv_config.specs.Config.{IsConfig, IsConfigBroken}
 use Rattle.wv_config.specs.Refmap.{IsRefmap, IsRefmapBroken}
+use Rattle.wv_config.specs.Entries.{entries_at, AreChosen}
 use Rattle.wv_config.specs.Fault.{broken_at}
 use Rattle.wv_config.specs.Finding.{IsLoadedOf, AreLoadedOf, IsFlawAt, IsFlawAmong, IsBrokenBefore, IsFirstFlaw, AreRead}
 use Rattle.wv_config.specs.Loading.{IsReadFrom}
@@ -199,3 +200,21 @@ module _ (files : List File) where
           | inr here ↦ not (subst (λ (b : Broken). IsBrokenBefore b first) (as-new other here) less)
         ];
       }
+
+-- ---- The loop over the entries
+
+module _ (references : List (Bor Entry)) (i : ℕ) (next : Bor Entry) (inside : i < length references) (at : next ≡ get_or references i next) where
+  next-at : next.now ≡ get_or (entries_at references) i next.now
+  next-at = ap (λ (e : Bor Entry). e.now) at ∙ sym (get_or-map (λ (e : Bor Entry). e.now) references i next next.now inside)
+
+  within : i < length (entries_at references)
+  within = omega (arith, length-map references (λ (e : Bor Entry). e.now))
+
+  pub entries-more : take (i + 1) (entries_at references) ≡ take i (entries_at references) ++ next.now ∷ []
+  entries-more = front-more (entries_at references) i next.now within next-at
+
+  pub entries-before : (entries : List Entry) → AreChosen entries (entries_at references) → All (λ e. IsPathBefore e.path next.now.path) (take i (entries_at references))
+  entries-before entries are = all-before (λ (e later : Entry). IsPathBefore e.path later.path) (entries_at references) i next.now are.ordered within next-at
+
+pub entries-all : (references : List (Bor Entry)) (i : ℕ) → length references ≤ i → take i (entries_at references) ≡ entries_at references
+entries-all references i past = take_all i (entries_at references) (omega (arith, length-map references (λ (e : Bor Entry). e.now)))

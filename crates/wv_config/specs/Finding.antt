@@ -4,8 +4,10 @@ use Rattle.wv_base.specs.declared.broken.Broken.{Broken}
 use Rattle.wv_base.specs.Folder.{File, IsPathBefore}
 use Rattle.wv_base.specs.Rule.{number_of}
 use Rattle.wv_config.specs.declared.loaded.LoadedConfig.{LoadedConfig}
+use Rattle.wv_config.specs.declared.loaded.Configs.{Configs}
 use Rattle.wv_config.specs.declared.loading.Reading.{Reading}
 use Rattle.wv_config.specs.declared.naming.Entry.{Entry}
+use Rattle.wv_config.specs.Entries.{AreChosen}
 use Rattle.wv_config.specs.Loading.{IsReadFrom}
 use Rattle.wv_config.specs.Reading.{IsFlaw}
 
@@ -50,3 +52,12 @@ pub record AreRead (files : List File) (entries : List Entry) (used others : Lis
 abbrev pub IsReadingOf : List File → List Entry → Reading → Type 0
 IsReadingOf files entries reading =
     MatchOption reading.first (AreRead files entries reading.used.items reading.others.items) (IsFirstFlaw files entries)
+
+-- of these entries the configurations at the chosen ones were read
+abbrev pub AreReadOf : List File → List Entry → Configs → Type 0
+AreReadOf files entries configs =
+    (chosen : List Entry) × AreChosen entries chosen × AreRead files chosen configs.used.items configs.others.items
+
+-- the first of what the configurations at the chosen ones break
+abbrev pub IsFirstFlawOf : List File → List Entry → Broken → Type 0
+IsFirstFlawOf files entries broken = (chosen : List Entry) × AreChosen entries chosen × IsFirstFlaw files chosen broken

@@ -1,11 +1,10 @@
 //! The configurations of the loaded mods.
 ghost use Rattle.std.specs.Prelude.{◌≡◌, if◌then◌else◌, [], IfOk, IfErr, OnOk, AllPairs, IsPermutation, MatchBool, option_copied};
 ghost use Rattle.std.specs.declared.cmp.Ordering.TheVariants.{Less};
-ghost use Rattle.wv_base.specs.Folder.{IsPathBefore};
 ghost use Rattle.wv_model.specs.FolderRead.{is_read};
-ghost use Rattle.wv_config.specs.Entries.{entries_at};
+ghost use Rattle.wv_config.specs.Entries.{IsBefore};
 ghost use Rattle.wv_config.specs.Fault.{IsFaultOf};
-ghost use Rattle.wv_config.specs.Finding.{IsLoadedOf, IsFlawAt, AreRead, IsFirstFlaw, IsBrokenBefore};
+ghost use Rattle.wv_config.specs.Finding.{IsLoadedOf, IsFlawAt, AreReadOf, IsFirstFlawOf, IsBrokenBefore};
 ghost use Rattle.wv_config.specs.Loading.{used_order, AreConfigs};
 ghost use Rattle.wv_config.specs.Reading.{config_content, refmap_of, IsConfigAt, IsConfigFlaw, IsRefmapOf, IsRefmapFlaw, IsFirstConfigBroken, AreConfigsKept};
 
@@ -43,29 +42,29 @@ pub fn load_configs(
     ensures fault { IfErr result (IsFaultOf (IsFirstConfigBroken folder.now side mods.now)) }
 {
     let entries = entries(alloc, mods, side)?;
-    let chosen = chosen(alloc, entries.as_slice())?;
-    let mut configs = read_configs(alloc, folder, chosen.as_slice())?;
+    let mut configs = read_configs(alloc, folder, entries.as_slice())?;
     sort_used(&mut configs.used)?;
     Ok(configs)
 }
 
-/// The configurations at the entries, in their order. A fault is the first rule that they break.
+/// The configurations that the entries name, by the bytes of their paths. A fault is the first rule
+/// that they break.
 fn read_configs<'a>(
     alloc: Global,
     folder: &Folder,
-    entries: &[&'a Entry<'a>],
+    entries: &'a [Entry<'a>],
 ) -> Result<Configs, ConfigFault>
-    requires { AllPairs (λ entry later. IsPathBefore entry.path later.path) (entries_at entries.now) }
-    ensures read { IfOk result (λ configs.
-        AreRead folder.now (entries_at entries.now) configs.used.items configs.others.items) }
-    ensures fault { IfErr result (IsFaultOf (IsFirstFlaw folder.now (entries_at entries.now))) }
+    requires { AllPairs IsBefore entries.now }
+    ensures read { IfOk result (AreReadOf folder.now entries.now) }
+    ensures fault { IfErr result (IsFaultOf (IsFirstFlawOf folder.now entries.now)) }
 {
+    let chosen = chosen(alloc, entries)?;
     let mut reading = Reading {
         used: Vec::new(alloc),
         others: Vec::new(alloc),
         first: None,
     };
-    for entry in entries {
+    for entry in chosen.as_slice() {
         reading.add(entry, load_config(alloc, folder, entry))?;
     }
     reading.finish()
@@ -188,9 +187,9 @@ struct Reading {
 
 impl Reading {
     ghost use Rattle.std.specs.Prelude.{◌∷◌, ◌++◌, List, All, IfSome, IsSomeAnd, MatchResult};
-    ghost use Rattle.wv_base.specs.Folder.{File};
+    ghost use Rattle.wv_base.specs.Folder.{File, IsPathBefore};
     ghost use Rattle.wv_config.specs.declared.naming.Entry.{Entry as Found};
-    ghost use Rattle.wv_config.specs.Finding.{IsReadingOf};
+    ghost use Rattle.wv_config.specs.Finding.{IsReadingOf, AreRead, IsFirstFlaw};
 
     /// Adds what was read at one entry more, which comes after the others.
     fn add(&mut self, entry: &Entry, loaded: Result<LoadedConfig, ConfigFault>) -> Result<(), Memory>
