@@ -4,7 +4,7 @@ use Rattle.std.specs.Borrow.{Bor}
 use Rattle.std.specs.Option.{option_and_then}
 use Rattle.std.specs.Prelude.{codes}
 use Rattle.std.proofs.lemmas.Bool.{cases_Bool}
-use Rattle.std.proofs.lemmas.List.{get_or-map, length-map, take_all}
+use Rattle.std.proofs.lemmas.List.{get_or-map, length-map, map-append, map-id, take-map}
 use Rattle.std.proofs.lemmas.List.Elements.{All-contains, All-push, All-weaker, Contains-push_cases}
 use Rattle.std.proofs.lemmas.List.Quantifiers.{Any-push, all_pairs_push}
 use Rattle.wv_base.specs.declared.broken.Broken.{Broken}
@@ -12,7 +12,7 @@ use Rattle.wv_base.specs.declared.rule.Rule.TheVariants.{RefmapBad}
 use Rattle.wv_base.specs.Folder.{File, IsPathBefore}
 use Rattle.wv_base.specs.Rule.{number_of}
 use Rattle.wv_resolve.proofs.Folders.{any-push_cases}
-use Rattle.wv_resolve.proofs.Lists.{any-append, front-more, all-before}
+use Rattle.wv_resolve.proofs.Lists.{any-append, all-before}
 use Rattle.wv_resolve.proofs.Paths.{not-before_itself, before-step}
 use Rattle.wv_config.specs.declared.config.Config.{Config}
 use Rattle.wv_config.specs.declared.loaded.LoadedConfig.{LoadedConfig}
@@ -210,11 +210,18 @@ module _ (references : List (Bor Entry)) (i : ℕ) (next : Bor Entry) (inside : 
   within : i < length (entries_at references)
   within = omega (arith, length-map references (λ (e : Bor Entry). e.now))
 
-  pub entries-more : take (i + 1) (entries_at references) ≡ take i (entries_at references) ++ next.now ∷ []
-  entries-more = front-more (entries_at references) i next.now within next-at
-
   pub entries-before : (entries : List Entry) → AreChosen entries (entries_at references) → All (λ e. IsPathBefore e.path next.now.path) (take i (entries_at references))
   entries-before entries are = all-before (λ (e later : Entry). IsPathBefore e.path later.path) (entries_at references) i next.now are.ordered within next-at
 
-pub entries-all : (references : List (Bor Entry)) (i : ℕ) → length references ≤ i → take i (entries_at references) ≡ entries_at references
-entries-all references i past = take_all i (entries_at references) (omega (arith, length-map references (λ (e : Bor Entry). e.now)))
+-- the entries that a loop has given
+pub yielded-more : (references : List (Bor Entry)) (next : Bor Entry) → entries_at (references ++ next ∷ []) ≡ entries_at references ++ next.now ∷ []
+yielded-more references next = map-append (λ (e : Bor Entry). e.now) references (next ∷ [])
+
+pub yielded-before : (all yielded : List (Bor Entry)) (next : Bor Entry) → map (λ e. e) yielded ≡ take (length yielded) all → length yielded < length all → next ≡ get_or all (length yielded) next → (entries : List Entry) → AreChosen entries (entries_at all) → All (λ e. IsPathBefore e.path next.now.path) (entries_at yielded)
+yielded-before all yielded next so_far inside at entries are =
+    subst (All (λ e. IsPathBefore e.path next.now.path))
+    (take-map (λ (e : Bor Entry). e.now) (length yielded) all ∙ ap entries_at (sym so_far ∙ map-id yielded))
+    (entries-before all (length yielded) next inside at entries are)
+
+pub yielded-all : (all yielded : List (Bor Entry)) → map (λ e. e) yielded ≡ all → entries_at yielded ≡ entries_at all
+yielded-all all yielded end = ap entries_at (sym (map-id yielded) ∙ end)

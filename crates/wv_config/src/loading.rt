@@ -64,7 +64,7 @@ fn read_configs<'a>(
         others: Vec::new(alloc),
         first: None,
     };
-    for entry in chosen.as_slice() {
+    for entry in chosen {
         reading.add(entry, load_config(alloc, folder, entry))?;
     }
     reading.finish()

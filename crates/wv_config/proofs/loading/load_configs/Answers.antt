@@ -1,6 +1,6 @@
-use Rattle.std.proofs.Common.{List, length, refl, subst, sym}
+use Rattle.std.proofs.Common.{length, refl, subst, sym}
 use Rattle.std.proofs.lemmas.Result.{err_from_is_err_and}
-use Rattle.wv_config.specs.declared.naming.Entry.{Entry}
+use Rattle.wv_config.specs.declared.loaded.Configs.{Configs}
 use Rattle.wv_config.specs.Entries.{AreEntriesTo}
 use Rattle.wv_config.proofs.Outcome.{configs-fault, configs-loaded, loaded-kept}
 use Rattle.wv_config.proofs.loading.load_configs.Goals as goal
@@ -20,6 +20,6 @@ returns-clause-loaded c =
 pub returns-clause-kept : goal.returns-clause-kept
 returns-clause-kept c =
     let all = subst (AreEntriesTo c.args.side c.args.mods.now (length c.args.mods.now) 0) (sym c.as_slice.ensures.value) c.in_ok-entries.ensures in
-    let sorted = record { used = c.sort_used.new.used; others = c.in_ok-configs.configs.others } in
+    let sorted : Configs = record { used = c.sort_used.new.used; others = c.in_ok-configs.configs.others } in
     loaded-kept c.args.folder.now c.args.side c.args.mods.now sorted
     (configs-loaded c.args.folder.now c.args.side c.args.mods.now c.as_slice.result.now all c.in_ok-configs.configs sorted c.in_ok-configs.ensures.read c.sort_used.ensures.same c.in_ok-sort_used.ensures.ordered refl)
