@@ -139,8 +139,7 @@ module _ (files : List File) (mods : List ModInfo) where
   same-lists (x ∷ xs) [] e reads reads' = cc
   same-lists (x ∷ xs) (y ∷ ys) e reads reads' =
       let heads : key x ≡ key y = cc in
-      let tails : map key xs ≡ map key ys = cc in
-      (
+      let tails : map key xs ≡ map key ys = cc in (
         same-as x y heads (All-head (IsRead files mods) x xs reads) (All-head (IsRead files mods) y ys reads'),
         same-lists xs ys tails (All-tail (IsRead files mods) x xs reads) (All-tail (IsRead files mods) y ys reads'),
       )

@@ -71,14 +71,18 @@ module _ (side : Side) (mods : List ModInfo) where
   stands-one path m p m' p' (inr g) (inr h) = other-one path m p m' p' g h
 
   named-for_named : (path : List ℕ) → IsNamedFor side mods path → IsNamed mods path
-  named-for_named path (m, p, names) = (m, p, record {
-    info = names.info;
-    entry = names.entry;
-    mod_there = names.mod_there;
-    entry_there = names.entry_there;
-    is_path = names.is_path;
-    fits = tt;
-  })
+  named-for_named path (m, p, names) = (
+    m,
+    p,
+    record {
+      info = names.info;
+      entry = names.entry;
+      mod_there = names.mod_there;
+      entry_there = names.entry_there;
+      is_path = names.is_path;
+      fits = tt;
+    },
+  )
 
   stands-named : (path : List ℕ) (m p : ℕ) → StandsAt side mods path m p → IsNamed mods path
   stands-named path m p (inl used) = named-for_named path (m, p, used.here)

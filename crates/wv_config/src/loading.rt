@@ -155,11 +155,7 @@ fn find_refmap(
 fn bytes_read<'a>(path: &str, bytes: &'a Bytes) -> &'a [u8]
     ensures { result.now ≡ if is_read path.now then bytes.now else [] }
 {
-    if is_read(path) {
-        bytes.as_slice()
-    } else {
-        &[]
-    }
+    if is_read(path) { bytes.as_slice() } else { &[] }
 }
 
 /// Whether a broken rule comes before another: by its number, then by its path.
@@ -192,7 +188,11 @@ impl Reading {
     ghost use Rattle.wv_config.specs.Finding.{IsReadingOf, AreRead, IsFirstFlaw};
 
     /// Adds what was read at one entry more, which comes after the others.
-    fn add(&mut self, entry: &Entry, loaded: Result<LoadedConfig, ConfigFault>) -> Result<(), Memory>
+    fn add(
+        &mut self,
+        entry: &Entry,
+        loaded: Result<LoadedConfig, ConfigFault>,
+    ) -> Result<(), Memory>
         ensures { (files : List File) (done : List Found)
             → IsReadingOf files done self.old
             → All (λ other. IsPathBefore other.path entry.now.path) done

@@ -134,9 +134,9 @@ impl<'a> Named<'a> {
     fn takes(&self, entry: &Entry) -> bool
         ensures { MatchBool result
             (IfSome (entry_under self.now entry.now.path)
-                (λ other. (entry.now.is_used ≡ true) × (other.now.is_used ≡ false)))
+            (λ other. (entry.now.is_used ≡ true) × (other.now.is_used ≡ false)))
             (IsSomeAnd (entry_under self.now entry.now.path)
-                (λ other. entry.now.is_used ≡ true → other.now.is_used ≡ true)) }
+            (λ other. entry.now.is_used ≡ true → other.now.is_used ≡ true)) }
     {
         match self.entries.get(&entry.path) {
             Some(other) => entry.is_used && !other.is_used,
