@@ -3,3 +3,10 @@ pub mod OneConfig
 pub mod Refusals
 pub mod Slashing
 pub mod Tables
+pub mod Entering
+pub mod Choosing
+pub mod Standing
+pub mod Reading
+pub mod Outcome
+pub mod ModFolder
+pub mod OneLoading

@@ -1,6 +1,11 @@
 pub mod Config
+pub mod Entries
 pub mod Fault
+pub mod Finding
 pub mod Key
+pub mod Loading
+pub mod Naming
+pub mod Reading
 pub mod Refmap
 pub mod Slashes
 pub mod Stands

@@ -1,0 +1,207 @@
+use crate::{ConfigFault, LoadedConfig, load_configs};
+use std::alloc::Global;
+use std::test::Fail;
+use wv_base::{Bytes, Folder, LINE, Side, Text, write_broken};
+use wv_mod::{ModInfo, read_mod};
+
+const PLAIN: &str = r#"{"package":"a"}"#;
+
+/// The folder of these files, which stand in the order of their paths.
+fn folder(alloc: Global, files: &[(&str, &str)]) -> Result<Folder, Fail> {
+    let mut folder = Folder::new(alloc);
+    for (path, content) in files {
+        let path = Text::from_str(alloc, path)?;
+        if !folder.takes(&path) {
+            return Err(Fail::from("a path out of order"));
+        }
+        folder.push(path, Bytes::from_slice(alloc, content.as_bytes())?)?;
+    }
+    Ok(folder)
+}
+
+/// The mods `a` and `b` with these lists of `mixins`.
+fn mods(alloc: Global, lists: [&str; 2]) -> Result<Vec<ModInfo>, Fail> {
+    let mut mods = Vec::new(alloc);
+    for (name, list) in [("aa", lists[0]), ("bb", lists[1])] {
+        let path = Text::from_string(format!(in alloc; "mods/{name}/fabric.mod.json")?);
+        let mut text = String::from_str(alloc, r#"{"schemaVersion":1,"version":"1","id":""#)?;
+        text.push_str(name)?;
+        text.push_str(r#"","mixins":["#)?;
+        text.push_str(list)?;
+        text.push_str("]}")?;
+        mods.push(read_mod(alloc, &path, text.as_bytes(), Side::Client)?)?;
+    }
+    Ok(mods)
+}
+
+/// The used configurations and the others with their places, or the line that refuses them.
+fn answer(alloc: Global, lists: [&str; 2], files: &[(&str, &str)]) -> Result<String, Fail> {
+    let folder = folder(alloc, files)?;
+    let mods = mods(alloc, lists)?;
+    match load_configs(alloc, &folder, mods.as_slice(), Side::Client) {
+        Ok(configs) => {
+            let mut shown = String::new(alloc);
+            show(alloc, &mut shown, configs.used.as_slice())?;
+            shown.push_str("| ")?;
+            show(alloc, &mut shown, configs.others.as_slice())?;
+            Ok(shown)
+        }
+        Err(ConfigFault::Broken(broken)) => {
+            let mut out = [0u8; LINE];
+            let len = write_broken(&broken, &mut out);
+            let line = str::from_utf8(&out[..len]).map_err(|_| "no text")?;
+            Ok(String::from_str(alloc, line)?)
+        }
+        Err(ConfigFault::Memory) => Err(Fail::from("out of memory")),
+    }
+}
+
+fn show(alloc: Global, shown: &mut String, configs: &[LoadedConfig]) -> Result<(), Fail> {
+    for config in configs {
+        let (path, place) = (config.path.as_str(), config.place);
+        let text = format!(in alloc; "{path}@{}.{place} ", config.mod_place)?;
+        shown.push_str(text.as_str())?;
+    }
+    Ok(())
+}
+
+#[test]
+fn what_is_loaded(rt: HostRuntime) -> Result<(), Fail> {
+    let alloc = rt.alloc();
+    let early = r#"{"package":"a","priority":-5}"#;
+    let late = r#"{"package":"a","priority":1001}"#;
+    for (lists, files, wanted) in [
+        (["", ""], [].as_slice(), "| "),
+        // Used configurations by priority, then by mod, then by place.
+        (
+            [r#""z.json","y.json""#, r#""c.json","d.json""#],
+            [
+                ("mods/aa/y.json", PLAIN),
+                ("mods/aa/z.json", PLAIN),
+                ("mods/bb/c.json", PLAIN),
+                ("mods/bb/d.json", early),
+            ]
+            .as_slice(),
+            "mods/bb/d.json@1.1 mods/aa/z.json@0.0 mods/aa/y.json@0.1 mods/bb/c.json@1.0 | ",
+        ),
+        (
+            [r#""z.json""#, r#""c.json""#],
+            [("mods/aa/z.json", late), ("mods/bb/c.json", PLAIN)].as_slice(),
+            "mods/bb/c.json@1.0 mods/aa/z.json@0.0 | ",
+        ),
+        // One that is named more than once, and two of the other side.
+        (
+            [
+                r#"{"config":"y.json","environment":"server"},"z.json",{"config":"y.json","environment":"client"},"y.json""#,
+                r#"{"config":"d.json","environment":"server"},{"config":"c.json","environment":"server"},{"config":"d.json","environment":"server"}"#,
+            ],
+            [
+                ("mods/aa/y.json", PLAIN),
+                ("mods/aa/z.json", PLAIN),
+                ("mods/bb/c.json", early),
+                ("mods/bb/d.json", late),
+            ]
+            .as_slice(),
+            "mods/aa/z.json@0.1 mods/aa/y.json@0.2 | mods/bb/c.json@1.1 mods/bb/d.json@1.0 ",
+        ),
+        // A refmap that is there, and one that isn't.
+        (
+            [r#""y.json","z.json""#, ""],
+            [
+                ("mods/aa/r.json", r#"{"mappings":{}}"#),
+                ("mods/aa/y.json", r#"{"package":"a","refmap":"r.json"}"#),
+                ("mods/aa/z.json", r#"{"package":"a","refmap":"gone.json"}"#),
+            ]
+            .as_slice(),
+            "mods/aa/y.json@0.0 mods/aa/z.json@0.1 | ",
+        ),
+    ] {
+        assert_eq!(rt; answer(alloc, lists, files)?.as_str(), wanted);
+    }
+    Ok(())
+}
+
+#[test]
+fn what_breaks_a_rule(rt: HostRuntime) -> Result<(), Fail> {
+    let alloc = rt.alloc();
+    let server = r#"{"config":"y.json","environment":"server"}"#;
+    let refmap = r#"{"package":"a","refmap":"r.txt"}"#;
+    let plugin = r#"{"package":"a","plugin":null}"#;
+    for (lists, files, wanted) in [
+        (
+            [r#""y.json""#, ""],
+            [].as_slice(),
+            "20 ConfigMissing at mods/aa/y.json wanted - found -",
+        ),
+        (
+            [r#""y.txt""#, ""],
+            [("mods/aa/y.txt", PLAIN)].as_slice(),
+            "20 ConfigMissing at mods/aa/y.txt wanted - found -",
+        ),
+        (
+            [r#""META-INF/y.json""#, ""],
+            [("mods/aa/META-INF/y.json", PLAIN)].as_slice(),
+            "20 ConfigMissing at mods/aa/META-INF/y.json wanted - found -",
+        ),
+        (
+            [server, ""],
+            [("mods/aa/y.json", "[]")].as_slice(),
+            "21 ConfigBad at mods/aa/y.json wanted - found json",
+        ),
+        (
+            [r#""y.json""#, ""],
+            [("mods/aa/y.json", r#"{"package":"a","client":1}"#)].as_slice(),
+            "21 ConfigBad at mods/aa/y.json wanted - found client",
+        ),
+        (
+            [r#""y.json""#, ""],
+            [("mods/aa/y.json", plugin)].as_slice(),
+            "22 PluginNamed at mods/aa/y.json wanted - found -",
+        ),
+        (
+            [server, ""],
+            [("mods/aa/r.txt", ""), ("mods/aa/y.json", refmap)].as_slice(),
+            "23 RefmapBad at mods/aa/r.txt wanted - found -",
+        ),
+        (
+            [r#""y.json""#, ""],
+            [
+                ("mods/aa/r.txt", r#"{"mappings":{}}"#),
+                ("mods/aa/y.json", refmap),
+            ]
+            .as_slice(),
+            "23 RefmapBad at mods/aa/r.txt wanted - found -",
+        ),
+        // Several at once: the least rule, then the first path, which for rule 23 is the refmap's.
+        (
+            [r#""y.json","z.json""#, r#""c.json""#],
+            [("mods/aa/y.json", plugin), ("mods/aa/z.json", "1")].as_slice(),
+            "20 ConfigMissing at mods/bb/c.json wanted - found -",
+        ),
+        (
+            [r#""z.json","y.json""#, r#""c.json""#],
+            [
+                ("mods/aa/y.json", "1"),
+                ("mods/aa/z.json", "2"),
+                ("mods/bb/c.json", plugin),
+            ]
+            .as_slice(),
+            "21 ConfigBad at mods/aa/y.json wanted - found json",
+        ),
+        (
+            [r#""y.json","z.json""#, ""],
+            [
+                ("mods/aa/q.json", ""),
+                ("mods/aa/r.json", ""),
+                ("mods/aa/y.json", r#"{"package":"a","refmap":"r.json"}"#),
+                ("mods/aa/z.json", r#"{"package":"a","refmap":"q.json"}"#),
+            ]
+            .as_slice(),
+            "23 RefmapBad at mods/aa/q.json wanted - found -",
+        ),
+    ] {
+        let wanted = format!(in alloc; "refused: rule {wanted}\n")?;
+        assert_eq!(rt; answer(alloc, lists, files)?.as_str(), wanted.as_str());
+    }
+    Ok(())
+}
