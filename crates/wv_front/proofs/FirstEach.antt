@@ -115,12 +115,12 @@ unfolding is_at
 seen-more old new mixins x updates h = record {
   exact = λ place. elim (cases_Bool (is_eq (nat_cmp x.class_place place))) [
     | inl e ↦
-      let same : x.class_place ≡ place = same-number x.class_place place e in
-      ap (contains nat_cmp new) (sym same) ∙ updates.1
-      ∙ sym (list_any-append (is_at place) mixins (x ∷ []) ∙ or-one (list_any (is_at place) mixins) (is_at place x) (equal-number x.class_place place same))
+        let same : x.class_place ≡ place = same-number x.class_place place e in
+        ap (contains nat_cmp new) (sym same) ∙ updates.1
+        ∙ sym (list_any-append (is_at place) mixins (x ∷ []) ∙ or-one (list_any (is_at place) mixins) (is_at place x) (equal-number x.class_place place same))
     | inr e ↦
-      updates.2 place e ∙ h.exact place
-      ∙ sym (list_any-append (is_at place) mixins (x ∷ []) ∙ or-none (list_any (is_at place) mixins) (is_at place x) (other-number x.class_place place e))
+        updates.2 place e ∙ h.exact place
+        ∙ sym (list_any-append (is_at place) mixins (x ∷ []) ∙ or-none (list_any (is_at place) mixins) (is_at place x) (other-number x.class_place place e))
   ];
 }
 
@@ -154,8 +154,8 @@ pub seen-again : (old new : BTreeSet ℕ) (mixins : List AppliedMixin) (place : 
 seen-again old new mixins place added updates h e f = record {
   exact = λ other. elim (cases_Bool (is_eq (nat_cmp place other))) [
     | inl tied ↦
-      let same : place ≡ other = same-number place other tied in
-      ap (contains nat_cmp new) (sym same) ∙ updates.1 ∙ sym (unless-there (contains nat_cmp old place) added e f) ∙ ap (contains nat_cmp old) same ∙ h.exact other
+        let same : place ≡ other = same-number place other tied in
+        ap (contains nat_cmp new) (sym same) ∙ updates.1 ∙ sym (unless-there (contains nat_cmp old place) added e f) ∙ ap (contains nat_cmp old) same ∙ h.exact other
     | inr apart ↦ updates.2 other apart ∙ h.exact other
   ];
 }
@@ -177,7 +177,7 @@ module _ (configs : List LoadedConfig) (classes : List LoadedClass) (side : Side
     | inl before ↦ before
     | inr (inr after) ↦ absurd (h.ordered i j d below inside after)
     | inr (inl same) ↦ absurd (h.apart i j d below inside (ap (λ (m : AppliedMixin). m.class_place)
-      (one-naming (get_or mixins i d) (get_or mixins j d) (naming (get_or mixins i d) (at-place i d (omega arith))) (naming (get_or mixins j d) (at-place j d inside)) same)))
+        (one-naming (get_or mixins i d) (get_or mixins j d) (naming (get_or mixins i d) (at-place i d (omega arith))) (naming (get_or mixins j d) (at-place j d inside)) same)))
   ]
 
   applied : (mixin : AppliedMixin) → Contains mixins mixin → IsApplied configs classes side mixin

@@ -82,12 +82,12 @@ places-kept names name old new h some is asked = elim (cases_Bool (bytes_eq aske
 pub places-more : (names : List (List ℕ)) (name : List ℕ) (place : ℕ) (old new : ClassPlaces) → ArePlaces names old → place ≡ length names → is_some (get (slice_cmp nat_cmp) old.places name) ≡ false → Updates (slice_cmp nat_cmp) old.places new.places name (Some place) → ArePlaces (names ++ name ∷ []) new
 places-more names name place old new h next none updates asked = elim (cases_Bool (bytes_eq asked name)) [
   | inl same ↦
-    let is : asked ≡ name = same-name asked name same in
-    ap (λ n. get (slice_cmp nat_cmp) new.places n) is ∙ updates.1 ∙ ap Some next
-    ∙ sym (hit (bytes_eq asked) names name same (sym (h asked) ∙ ap (λ n. get (slice_cmp nat_cmp) old.places n) is ∙ absent (get (slice_cmp nat_cmp) old.places name) none))
+      let is : asked ≡ name = same-name asked name same in
+      ap (λ n. get (slice_cmp nat_cmp) new.places n) is ∙ updates.1 ∙ ap Some next
+      ∙ sym (hit (bytes_eq asked) names name same (sym (h asked) ∙ ap (λ n. get (slice_cmp nat_cmp) old.places n) is ∙ absent (get (slice_cmp nat_cmp) old.places name) none))
   | inr other ↦
-    updates.2 asked (is_eq-slice_cmp name asked ∙ apart asked name other)
-    ∙ sym (other-push (bytes_eq asked) names name (get (slice_cmp nat_cmp) old.places asked) other (sym (h asked)))
+      updates.2 asked (is_eq-slice_cmp name asked ∙ apart asked name other)
+      ∙ sym (other-push (bytes_eq asked) names name (get (slice_cmp nat_cmp) old.places asked) other (sym (h asked)))
 ]
   where
     apart : (a b : List ℕ) → bytes_eq a b ≡ false → bytes_eq b a ≡ false

@@ -76,8 +76,8 @@ module _ {A B : Type 0} (IsOf : ℕ → A → B → Type 0) (list : List A) wher
       into (k, z, below, stands, is) = elim (cases_lt k i) [
         | inl lt ↦ inl (k, z, lt, stands, is)
         | inr ge ↦
-          let last : k ≡ i = omega arith in
-          inr (subst (λ (n : ℕ). IsOf n x y) last (subst (λ (w : A). IsOf k w y) (stands-one list k i z x last stands (inside, sym at)) is))
+            let last : k ≡ i = omega arith in
+            inr (subst (λ (n : ℕ). IsOf n x y) last (subst (λ (w : A). IsOf k w y) (stands-one list k i z x last stands (inside, sym at)) is))
       ]
 
       from : IsOfFront IsOf list i y ⊎ IsOf i x y → IsOfFront IsOf list (i + 1) y
@@ -100,12 +100,12 @@ of-append {A} {B} IsOf xs ys y = (into, from)
     into : IsOfSome IsOf (xs ++ ys) y → IsOfSome (λ k. IsOf (0 + k)) xs y ⊎ IsOfSome (λ k. IsOf (length xs + k)) ys y
     into (k, x, (inside, at), is) = elim (cases_lt k (length xs)) [
       | inl lt ↦
-        let same : k ≡ 0 + k = omega arith in
-        inl (k, x, (lt, sym (get_or_append_left xs ys x k lt) ∙ at), subst (λ (n : ℕ). IsOf n x y) same is)
+          let same : k ≡ 0 + k = omega arith in
+          inl (k, x, (lt, sym (get_or_append_left xs ys x k lt) ∙ at), subst (λ (n : ℕ). IsOf n x y) same is)
       | inr ge ↦
-        let back : k ≡ length xs + (k - length xs) = omega arith in
-        let within : k - length xs < length ys = omega (arith, length-append xs ys) in
-        inr (k - length xs, x, (within, sym (get_or-append_right xs ys (length xs) k x refl ge) ∙ at), subst (λ (n : ℕ). IsOf n x y) back is)
+          let back : k ≡ length xs + (k - length xs) = omega arith in
+          let within : k - length xs < length ys = omega (arith, length-append xs ys) in
+          inr (k - length xs, x, (within, sym (get_or-append_right xs ys (length xs) k x refl ge) ∙ at), subst (λ (n : ℕ). IsOf n x y) back is)
     ]
 
     from : IsOfSome (λ k. IsOf (0 + k)) xs y ⊎ IsOfSome (λ k. IsOf (length xs + k)) ys y → IsOfSome IsOf (xs ++ ys) y

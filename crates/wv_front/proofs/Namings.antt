@@ -70,14 +70,17 @@ some-stands (x ∷ xs) (suc k) inside =
 pub entry-pushed : (classes : List LoadedClass) (config_place : ℕ) (config : Config) (entry_place : ℕ) (entry : List ℕ) (namings : List AppliedMixin) (mixin : AppliedMixin) (name : List ℕ) (class_place : ℕ) → mixin.name ≡ name → mixin.class_place ≡ class_place → mixin.config_place ≡ config_place → mixin.entry_place ≡ entry_place → name ≡ class_of config.«package» entry → position (bytes_eq name) (map loaded_name classes) ≡ Some class_place → ((class : LoadedClass) → StandsAt classes class_place class → mixin.priority ≡ priority_of config class) → Grows namings (namings ++ mixin ∷ []) (IsEntryNaming classes config_place config entry_place entry)
 entry-pushed classes config_place config entry_place entry namings mixin name class_place is_name is_class is_config is_entry of_name first of_priority =
     let found = some-stands classes class_place (place-inside classes name class_place first) in
-    entry-named classes config_place config entry_place entry namings mixin
-    (is_config, is_entry, record {
-      of_name = is_name ∙ of_name;
-      first = ap (λ n. position (bytes_eq n) (map loaded_name classes)) is_name ∙ first ∙ ap Some (sym is_class);
-      class = found.0;
-      of_class = subst (λ (k : ℕ). StandsAt classes k found.0) (sym is_class) found.1;
-      of_priority = of_priority found.0 found.1;
-    })
+    entry-named classes config_place config entry_place entry namings mixin (
+      is_config,
+      is_entry,
+      record {
+        of_name = is_name ∙ of_name;
+        first = ap (λ n. position (bytes_eq n) (map loaded_name classes)) is_name ∙ first ∙ ap Some (sym is_class);
+        class = found.0;
+        of_class = subst (λ (k : ℕ). StandsAt classes k found.0) (sym is_class) found.1;
+        of_priority = of_priority found.0 found.1;
+      },
+    )
 
 pub entry-unnamed : (classes : List LoadedClass) (config_place : ℕ) (config : Config) (entry_place : ℕ) (entry name : List ℕ) (namings : List AppliedMixin) → name ≡ class_of config.«package» entry → position (bytes_eq name) (map loaded_name classes) ≡ None → Grows namings namings (IsEntryNaming classes config_place config entry_place entry)
 entry-unnamed classes config_place config entry_place entry name namings of_name none =

@@ -41,8 +41,8 @@ module _ (configs : List LoadedConfig) (classes : List LoadedClass) (side : Side
         | inr (inl below) ↦ (j, omega (arith, length-take k mixins), get_or-take k mixins j other below ∙ at)
         | inr (inr above) ↦ absurd (one-way other mixin before (after-it j other above inside at))
         | inl same ↦
-          let one : other ≡ mixin = sym at ∙ get_or_default mixins j other mixin inside ∙ ap (λ n. get_or mixins n mixin) same ∙ stands.1 in
-          absurd (one-way other mixin before (subst (λ (m : AppliedMixin). IsBefore m other) one (subst (IsBefore other) (sym one) before)))
+            let one : other ≡ mixin = sym at ∙ get_or_default mixins j other mixin inside ∙ ap (λ n. get_or mixins n mixin) same ∙ stands.1 in
+            absurd (one-way other mixin before (subst (λ (m : AppliedMixin). IsBefore m other) one (subst (IsBefore other) (sym one) before)))
       ]
 
   apart : AllPairs (λ one other. one ≢ other) (take k mixins)

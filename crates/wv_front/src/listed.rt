@@ -48,7 +48,10 @@ fn by_path<'a>(alloc: Global, configs: &'a Configs) -> Result<Vec<&'a LoadedConf
     Ok(ordered)
 }
 
-fn add_all<'a>(ordered: &mut Vec<&'a LoadedConfig>, configs: &'a [LoadedConfig]) -> Result<(), Memory>
+fn add_all<'a>(
+    ordered: &mut Vec<&'a LoadedConfig>,
+    configs: &'a [LoadedConfig],
+) -> Result<(), Memory>
     ensures { OnOk result (values ordered.new.items ≡ values ordered.old.items ++ configs.now) }
 {
     for config in configs {

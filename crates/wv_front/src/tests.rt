@@ -2,8 +2,8 @@ use crate::{WeaveFault, check_listed, check_marked, order_mixins};
 use std::alloc::Global;
 use std::test::Fail;
 use wv_base::{
-    AccessFlags, Annotation, Broken, ClassFile, ClassVersion, Const, Element, Items, Name, NamedElement,
-    Note, Rule, Side, Text,
+    AccessFlags, Annotation, Broken, ClassFile, ClassVersion, Const, Element, Items, Name,
+    NamedElement, Note, Rule, Side, Text,
 };
 use wv_classes::{ClassRead, FolderClass, LoadedClass};
 use wv_config::{Configs, LoadedConfig, Refmap, read_config};
@@ -55,7 +55,7 @@ fn class(alloc: Global, name: &str, marks: &[Option<i32>]) -> Result<LoadedClass
                 major: 52,
                 minor: 0,
             },
-            flags: AccessFlags::from_bits_retain(0x21),
+            flags: AccessFlags::PUBLIC,
             name: Name::from_ascii(alloc, name)?,
             superclass: Name::from_ascii(alloc, "java/lang/Object")?,
             interfaces: Items::new(alloc),
@@ -150,7 +150,10 @@ fn mixins_come_by_their_keys(rt: HostRuntime) -> Result<(), Fail> {
     let alloc = rt.alloc();
     let configs = configs(alloc)?;
     let classes = classes(alloc)?;
-    for (side, wanted) in [(Side::Client, "m/B m/A m/C "), (Side::Server, "m/A m/C m/D ")] {
+    for (side, wanted) in [
+        (Side::Client, "m/B m/A m/C "),
+        (Side::Server, "m/A m/C m/D "),
+    ] {
         let mixins = order_mixins(alloc, &configs, classes.as_slice(), side)?;
         let mut names = String::new(alloc);
         for mixin in mixins.as_slice() {
@@ -167,7 +170,10 @@ fn a_mixin_without_one_mark_is_refused(rt: HostRuntime) -> Result<(), Fail> {
     let alloc = rt.alloc();
     let configs = configs(alloc)?;
     let mut classes = classes(alloc)?;
-    for (side, path) in [(Side::Client, "mods/m/m/C.class"), (Side::Server, "mods/m/m/C.class")] {
+    for (side, path) in [
+        (Side::Client, "mods/m/m/C.class"),
+        (Side::Server, "mods/m/m/C.class"),
+    ] {
         let mixins = order_mixins(alloc, &configs, classes.as_slice(), side)?;
         let answer = check_marked(alloc, mixins.as_slice(), classes.as_slice());
         let Some(broken) = broken(answer)? else {
