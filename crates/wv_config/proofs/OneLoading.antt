@@ -1,6 +1,6 @@
 -- The configurations that mods name are loaded in one way, or one rule is the first that they break.
-use Rattle.std.proofs.Common.{◌≡◌, ◌⊎◌, inl, inr, ℕ, zero, suc, ◌<◌, List, [], ◌∷◌, ◌++◌, length, get_or, map, All, AllPairs, Any, Contains, Option, Some, None, refl, ap, sym, ◌∙◌, subst, arith, codes}
-use Rattle.std.specs.List.{AllZip, AllByRecursion, slice_get}
+use Rattle.std.proofs.Common.{◌≡◌, inl, inr, ℕ, zero, suc, ◌<◌, List, [], ◌∷◌, ◌++◌, length, get_or, map, All, AllPairs, Any, Contains, Option, Some, None, refl, ap, sym, ◌∙◌, subst, arith, codes}
+use Rattle.std.specs.List.{AllZip}
 use Rattle.std.specs.declared.cmp.Ordering.{Ordering}
 use Rattle.std.specs.declared.cmp.Ordering.TheVariants.{Less, Equal}
 use Rattle.std.specs.Ordering.{nat_cmp, int_cmp, ordering_then}
@@ -8,7 +8,6 @@ use Rattle.std.specs.Cmp.{IsTotalOrder}
 use Rattle.std.proofs.lemmas.Cmp.{nat_cmp_total, int_cmp_total, then_total, on_total, tied_itself}
 use Rattle.std.proofs.lemmas.List.{get_or-map, length-map}
 use Rattle.std.proofs.lemmas.List.Elements.{All-contains, All-head, All-tail}
-use Rattle.std.proofs.lemmas.Option.{slice_get_within}
 use Rattle.wv_base.specs.declared.broken.Broken.{Broken}
 use Rattle.wv_base.specs.declared.rule.Rule.{Rule}
 use Rattle.wv_base.specs.declared.rule.Rule.TheVariants.{RefmapBad}
@@ -24,11 +23,11 @@ use Rattle.wv_config.specs.declared.loaded.LoadedConfig.{LoadedConfig}
 use Rattle.wv_config.specs.declared.refmap.Refmap.{Refmap}
 use Rattle.wv_config.specs.Config.{IsConfigBroken, no_object, wrong_key, plugin}
 use Rattle.wv_config.specs.Fault.{broken_at}
-use Rattle.wv_config.specs.Loading.{IsReadFrom, IsRead, used_order, AreUsed, AreOthers, AreConfigs, IsSameAs, AreSame}
-use Rattle.wv_config.specs.Naming.{folder_of, IsNamedFor, IsUsedAt, IsOtherAt}
+use Rattle.wv_config.specs.Loading.{IsRead, AreUsed, AreOthers, AreConfigs, IsSameAs, AreSame}
+use Rattle.wv_config.specs.Naming.{folder_of, IsUsedAt, IsOtherAt}
 use Rattle.wv_config.specs.Reading.{IsFlaw, IsConfigAt, IsConfigFlaw, IsRefmapFlaw, IsRefmapOf, refmap_of, BreaksRule, config_rules, IsFirstConfigBroken, AreConfigsKept}
-use Rattle.wv_config.specs.Refmap.{text_in, text_within, IsRefmap, IsRefmapFile}
-use Rattle.wv_config.proofs.Outcome.{used-one, other-one, loaded-kept}
+use Rattle.wv_config.specs.Refmap.{text_in, text_within}
+use Rattle.wv_config.proofs.Outcome.{used-one, other-one}
 use Rattle.wv_config.proofs.Standing.{same-mod}
 use Rattle.wv_config.proofs.Reading.{one-config_at, one-config_flaw}
 use Rattle.wv_config.proofs.Refusals.{same_object}

@@ -1,5 +1,5 @@
 -- The configurations that the mods name, and the first rule that they break, from what was read.
-use Rattle.std.proofs.Common.{◌≡◌, ◌⊎◌, inl, inr, ℕ, ◌<◌, Bool, true, false, true≢false, List, [], ◌∷◌, ◌++◌, length, get_or, All, AllPairs, Any, Contains, Some, Result, Ok, Err, IfOk, IfErr, OnOk, IsPermutation, refl, ap, sym, ◌∙◌, subst, arith, lit<}
+use Rattle.std.proofs.Common.{◌≡◌, inl, inr, ℕ, ◌<◌, Bool, true, false, true≢false, List, ◌++◌, length, get_or, All, AllPairs, Any, Contains, Some, Result, Ok, Err, IfOk, IfErr, OnOk, IsPermutation, refl, ap, sym, ◌∙◌, subst, arith, lit<}
 use Rattle.std.specs.List.{slice_get}
 use Rattle.std.specs.Borrow.{Bor}
 use Rattle.std.specs.Cmp.{IsTotalOrder, IsStrictWeakOrder}
@@ -19,9 +19,9 @@ use Rattle.wv_base.specs.declared.broken.Broken.{Broken}
 use Rattle.wv_base.specs.declared.rule.Rule.{Rule}
 use Rattle.wv_base.specs.declared.rule.Rule.TheVariants.{ConfigMissing, ConfigBad, PluginNamed, RefmapBad}
 use Rattle.wv_base.specs.declared.side.Side.{Side}
-use Rattle.wv_base.specs.Folder.{File, IsPathBefore}
+use Rattle.wv_base.specs.Folder.{File}
 use Rattle.wv_base.specs.Rule.{number_of}
-use Rattle.wv_mod.specs.FirstBroken.{IsKept, IsFirstBreak, IsFirstOf, here, behind}
+use Rattle.wv_mod.specs.FirstBroken.{IsKept, IsFirstBreak, here, behind}
 use Rattle.wv_mod.specs.declared.mod_info.ModInfo.{ModInfo}
 use Rattle.wv_mod.specs.declared.environment.Environment.{Environment}
 use Rattle.wv_mod.specs.Environment.{IsFor}
@@ -35,8 +35,8 @@ use Rattle.wv_config.specs.Entries.{IsEntry, Stands, AreEntriesTo, AreChosen, Ar
 use Rattle.wv_config.specs.Fault.{IsFaultOf}
 use Rattle.wv_config.specs.Finding.{IsLoadedOf, AreLoadedOf, IsFlawAt, IsFlawAmong, IsFirstFlaw, AreRead, AreReadOf, IsFirstFlawOf}
 use Rattle.wv_config.specs.Loading.{IsReadFrom, IsRead, used_order, AreUsed, AreOthers, AreConfigs}
-use Rattle.wv_config.specs.Naming.{folder_of, IsEarlier, Names, Anywhere, IsNamed, IsNamedFor, IsFirstNaming, IsUsedAt, IsOtherAt, StandsAt}
-use Rattle.wv_config.specs.Reading.{IsConfigIn, IsFlaw, BreaksRule, IsFirstConfigBroken, AreConfigsKept}
+use Rattle.wv_config.specs.Naming.{folder_of, IsEarlier, Anywhere, IsNamed, IsNamedFor, IsFirstNaming, IsUsedAt, IsOtherAt, StandsAt}
+use Rattle.wv_config.specs.Reading.{IsFlaw, BreaksRule, IsFirstConfigBroken, AreConfigsKept}
 use Rattle.wv_config.proofs.Standing.{same-mod, same-mixin, are-named}
 use Rattle.wv_config.proofs.Reading.{read-not_flawed}
 use denote.Param.Members.{Mut}

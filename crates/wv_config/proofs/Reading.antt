@@ -1,16 +1,15 @@
 -- What configurations say, as they are read in turn, or the first rule that they break.
-use Rattle.std.proofs.Common.{◌≡◌, ◌⊎◌, inl, inr, ℕ, ◌+◌, ◌<◌, ◌≤◌, Bool, true, false, true≢false, List, [], ◌∷◌, ◌++◌, length, get_or, take, map, All, Any, Contains, Result, Ok, Err, IfOk, IfErr, MatchResult, Option, Some, None, MatchOption, IfSome, IsSomeAnd, refl, ap, sym, ◌∙◌, subst, arith}
+use Rattle.std.proofs.Common.{◌≡◌, ◌⊎◌, inl, inr, ℕ, ◌<◌, Bool, true, false, true≢false, List, [], ◌∷◌, ◌++◌, length, get_or, take, map, All, Any, Option, Some, None, MatchOption, IfSome, IsSomeAnd, ap, sym, ◌∙◌, subst, arith}
 use Rattle.std.specs.Borrow.{Bor}
 use Rattle.std.specs.Option.{option_and_then}
 use Rattle.std.specs.Prelude.{codes}
 use Rattle.std.proofs.lemmas.Bool.{cases_Bool}
 use Rattle.std.proofs.lemmas.List.{get_or-map, length-map, map-append, map-id, take-map}
-use Rattle.std.proofs.lemmas.List.Elements.{All-contains, All-push, All-weaker, Contains-push_cases}
+use Rattle.std.proofs.lemmas.List.Elements.{All-contains, All-push, All-weaker}
 use Rattle.std.proofs.lemmas.List.Quantifiers.{Any-push, all_pairs_push}
 use Rattle.wv_base.specs.declared.broken.Broken.{Broken}
 use Rattle.wv_base.specs.declared.rule.Rule.TheVariants.{RefmapBad}
 use Rattle.wv_base.specs.Folder.{File, IsPathBefore}
-use Rattle.wv_base.specs.Rule.{number_of}
 use Rattle.wv_resolve.proofs.Folders.{any-push_cases}
 use Rattle.wv_resolve.proofs.Lists.{any-append, all-before}
 use Rattle.wv_resolve.proofs.Paths.{not-before_itself, before-step}
@@ -19,12 +18,12 @@ use Rattle.wv_config.specs.declared.loaded.LoadedConfig.{LoadedConfig}
 use Rattle.wv_config.specs.declared.naming.Entry.{Entry}
 use Rattle.wv_config.specs.declared.refmap.Refmap.{Refmap}
 use Rattle.wv_config.specs.Config.{IsConfig, IsConfigBroken}
-use Rattle.wv_config.specs.Refmap.{IsRefmap, IsRefmapBroken}
+use Rattle.wv_config.specs.Refmap.{IsRefmap}
 use Rattle.wv_config.specs.Entries.{entries_at, AreChosen}
 use Rattle.wv_config.specs.Fault.{broken_at}
 use Rattle.wv_config.specs.Finding.{IsLoadedOf, AreLoadedOf, IsFlawAt, IsFlawAmong, IsBrokenBefore, IsFirstFlaw, AreRead}
 use Rattle.wv_config.specs.Loading.{IsReadFrom}
-use Rattle.wv_config.specs.Reading.{config_content, refmap_content, refmap_of, IsConfigAt, IsRefmapOf, IsConfigFlaw, IsRefmapFlaw, IsFlaw}
+use Rattle.wv_config.specs.Reading.{refmap_content, refmap_of, IsConfigAt, IsRefmapOf, IsConfigFlaw, IsRefmapFlaw, IsFlaw}
 use Rattle.wv_config.proofs.OneConfig.{same_config}
 use Rattle.wv_config.proofs.Refusals.{config-not_broken, same_refusal}
 

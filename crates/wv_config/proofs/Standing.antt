@@ -1,8 +1,8 @@
 -- The configurations that the mods name stand at the chosen entries.
-use Rattle.std.proofs.Common.{◌≡◌, ◌≢◌, ◌⊎◌, ◌↔◌, inl, inr, ℕ, ◌<◌, Bool, true, false, true≢false, IsTrue, List, [], ◌++◌, length, get_or, All, Any, Contains, Some, refl, ap, sym, ◌∙◌, subst, arith}
+use Rattle.std.proofs.Common.{◌≡◌, ◌⊎◌, ◌↔◌, inl, inr, ℕ, ◌<◌, Bool, true, false, true≢false, IsTrue, List, ◌++◌, length, get_or, Any, Contains, Some, refl, ap, sym, ◌∙◌, subst}
 use Rattle.std.specs.List.{slice_get}
 use Rattle.std.proofs.lemmas.Bool.{cases_Bool}
-use Rattle.std.proofs.lemmas.List.Elements.{All-contains, All-weaker}
+use Rattle.std.proofs.lemmas.List.Elements.{All-contains}
 use Rattle.std.proofs.lemmas.Option.{slice_get_within}
 use Rattle.wv_base.specs.declared.side.Side.{Side}
 use Rattle.wv_mod.specs.declared.environment.Environment.{Environment}
@@ -10,7 +10,7 @@ use Rattle.wv_mod.specs.declared.mixin.MixinConfig.{MixinConfig}
 use Rattle.wv_mod.specs.declared.mod_info.ModInfo.{ModInfo}
 use Rattle.wv_mod.specs.Environment.{IsFor}
 use Rattle.wv_config.specs.declared.naming.Entry.{Entry}
-use Rattle.wv_config.specs.Naming.{folder_of, IsEarlier, Names, Anywhere, IsNamed, IsNamedFor, IsUsedAt, IsOtherAt}
+use Rattle.wv_config.specs.Naming.{folder_of, IsEarlier, Names, Anywhere}
 use Rattle.wv_config.specs.Entries.{IsEntry, IsBefore, AreEntriesTo, GoesBefore, IsChosen, AreChosen, Stands, AreNamed}
 use Rattle.wv_config.proofs.Entering.{some-same}
 

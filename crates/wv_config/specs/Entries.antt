@@ -1,5 +1,5 @@
 -- The entries that are found on the way to the configurations that mods name (our own).
-use Rattle.std.specs.Prelude.{◌≡◌, ◌≢◌, ◌⊎◌, ◌↔◌, ℕ, IsTrue, Bool, true, false, List, ◌++◌, map, All, Any, AllPairs, Contains, Some, Option, MatchOption, slice_get}
+use Rattle.std.specs.Prelude.{◌≡◌, ◌≢◌, ◌⊎◌, ◌↔◌, ℕ, IsTrue, true, false, List, ◌++◌, map, All, Any, AllPairs, Contains, Some, Option, MatchOption, slice_get}
 use Rattle.std.specs.Borrow.{Bor}
 use Rattle.std.specs.BTreeMap.{get}
 use Rattle.std.specs.Cmp.Lexicographic.{slice_cmp}

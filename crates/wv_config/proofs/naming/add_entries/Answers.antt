@@ -2,7 +2,6 @@ use Rattle.std.proofs.Common.{◌≡◌, ◌+◌, ◌≤◌, List, Some, length,
 use Rattle.std.specs.List.{slice_get}
 use Rattle.std.proofs.lemmas.Option.{slice_get_read}
 use Rattle.wv_mod.specs.declared.mixin.MixinConfig.{MixinConfig}
-use Rattle.wv_config.specs.declared.naming.Entry.{Entry}
 use Rattle.wv_config.specs.Entries.{AreEntriesTo}
 use Rattle.wv_config.proofs.Entering.{entries-push, entries-next}
 use Rattle.wv_config.proofs.naming.add_entries.Goals as goal

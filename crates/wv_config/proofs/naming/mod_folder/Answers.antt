@@ -1,4 +1,4 @@
-use Rattle.std.proofs.Common.{sym, ◌∙◌}
+use Rattle.std.proofs.Common.{sym}
 use Rattle.wv_config.proofs.ModFolder.{stripped}
 use Rattle.wv_config.proofs.naming.mod_folder.Goals as goal
 
