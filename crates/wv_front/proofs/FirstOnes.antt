@@ -1,5 +1,5 @@
 -- Of a list one is the first, and where all have a property none is the first without it.
-use Rattle.std.proofs.Common.{◌≡◌, ℕ, zero, suc, ◌<◌, List, [], ◌∷◌, ◌++◌, length, get_or, All, Contains, refl, ap, sym, ◌∙◌, subst, arith, length-append, IsPermutation}
+use Rattle.std.proofs.Common.{◌≡◌, zero, suc, List, [], ◌∷◌, ◌++◌, All, subst, arith}
 use Rattle.std.specs.List.{AllByRecursion}
 use Rattle.wv_resolve.specs.Refusal.{IsFirst}
 

@@ -1,10 +1,10 @@
 -- The order of mixins by their keys.
-use Rattle.std.proofs.Common.{◌≡◌, ◌⊎◌, inl, inr, ℕ, ◌<◌, ◌≤◌, ◌<ℤ◌, ℤ, Bool, true, false, List, length, get_or, AllPairs, IsPermutation, Result, Ok, Err, OnOk, refl, ap, sym, ◌∙◌, subst, arith, true≢false}
+use Rattle.std.proofs.Common.{◌≡◌, ◌⊎◌, inl, inr, ◌<ℤ◌, ℤ, Bool, List, get_or, AllPairs, IsPermutation, Result, Ok, Err, OnOk, refl, ap, sym, ◌∙◌, arith, true≢false}
 use Rattle.std.specs.Borrow.{Bor}
 use Rattle.std.specs.Cmp.{IsTotalOrder, IsStrictWeakOrder, int_cmp_is, int_ranks, nat_cmp_is}
 use Rattle.std.specs.Fn.{Called, ComparesAs}
 use Rattle.std.specs.List.Sorted.{IsSortedBy, IsSortedByClosure}
-use Rattle.std.specs.Ordering.{int_cmp, nat_cmp, ordering_then, ordering_reverse, is_lt, MatchOrdering}
+use Rattle.std.specs.Ordering.{int_cmp, ordering_reverse, is_lt, MatchOrdering}
 use Rattle.std.specs.declared.cmp.Ordering.{Ordering}
 use Rattle.std.specs.declared.cmp.Ordering.TheVariants.{Less, Equal, Greater}
 use Rattle.std.proofs.lemmas.Bool.{cases_order}

@@ -1,10 +1,9 @@
 -- The first of the listed classes that is missing.
-use Rattle.std.proofs.Common.{◌≡◌, ℕ, ◌+◌, ◌<◌, ◌≤◌, Bool, true, false, List, [], ◌∷◌, ◌++◌, length, get_or, take, drop, map, filter, Contains, Option, Some, None, MatchOption, Result, Ok, Err, IfOk, OnOk, codes, refl, ap, sym, ◌∙◌, subst, arith, true≢false, append_assoc, inl, inr, IsPermutation}
+use Rattle.std.proofs.Common.{◌≡◌, ℕ, ◌+◌, ◌<◌, ◌≤◌, Bool, true, false, List, [], ◌∷◌, ◌++◌, length, get_or, take, drop, filter, Contains, Option, Some, None, Result, Ok, Err, IfOk, OnOk, codes, refl, ap, sym, ◌∙◌, subst, arith, true≢false, append_assoc, inl, inr}
 use Rattle.std.specs.Borrow.{Bor}
-use Rattle.std.specs.Cmp.{IsStrictWeakOrder}
 use Rattle.std.specs.Cmp.Lexicographic.{slice_cmp}
 use Rattle.std.specs.List.{AllByRecursion}
-use Rattle.std.specs.List.Sorted.{ties, IsSortedByClosure, IsStableByClosure}
+use Rattle.std.specs.List.Sorted.{ties}
 use Rattle.std.specs.Option.{is_some}
 use Rattle.std.specs.Ordering.{nat_cmp, is_lt}
 use Rattle.std.proofs.lemmas.Bool.{cases_Bool}
@@ -16,11 +15,10 @@ use Rattle.wv_config.specs.declared.config.Config.{Config}
 use Rattle.wv_config.specs.declared.loaded.LoadedConfig.{LoadedConfig}
 use Rattle.wv_config.specs.Slashes.{class_of}
 use Rattle.wv_mod.proofs.Relating.{cut-at}
-use Rattle.wv_resolve.specs.Refusal.{IsFirst, broken_at}
+use Rattle.wv_resolve.specs.Refusal.{broken_at}
 use Rattle.wv_resolve.specs.Resolution.{IsOrderedBy}
-use Rattle.wv_resolve.proofs.Lists.{front-more, each-append, each-more}
-use Rattle.wv_resolve.proofs.Entries.{first-at}
-use Rattle.wv_front.specs.Listed.{class_names, path_of}
+use Rattle.wv_resolve.proofs.Lists.{front-more, each-append}
+use Rattle.wv_front.specs.Listed.{class_names}
 use Rattle.wv_front.specs.Listing.{LacksFirst, HaveListed, AreMissing, values, listed_by}
 
 -- ---- Order of what is referred to

@@ -1,5 +1,5 @@
 -- Namings: what an entry names, and what the entries of configurations name together.
-use Rattle.std.proofs.Common.{◌≡◌, ◌↔◌, ◌⊎◌, inl, inr, ℕ, zero, suc, ℤ, ◌+◌, ◌<◌, ◌≤◌, List, [], ◌∷◌, ◌++◌, length, get_or, map, Contains, Option, Some, None, Result, Ok, Err, OnOk, bytes_eq, refl, ap, sym, ◌∙◌, subst, arith}
+use Rattle.std.proofs.Common.{◌≡◌, ◌↔◌, ◌⊎◌, inl, inr, ℕ, zero, suc, ◌<◌, List, [], ◌∷◌, ◌++◌, length, map, Contains, Some, None, Result, Ok, Err, OnOk, bytes_eq, refl, ap, sym, ◌∙◌, subst, arith}
 use Rattle.std.specs.List.{position}
 use Rattle.std.proofs.lemmas.List.{length-map}
 use Rattle.std.proofs.lemmas.List.Quantifiers.{position-Some}
@@ -11,7 +11,7 @@ use Rattle.wv_config.specs.Slashes.{class_of}
 use Rattle.wv_front.specs.declared.order.AppliedMixin.{AppliedMixin}
 use Rattle.wv_front.specs.Places.{loaded_name}
 use Rattle.wv_front.specs.MixinOrder.{StandsAt, side_entries, entries_on, priority_of, NamesClass, IsNaming}
-use Rattle.wv_front.specs.Naming.{Grows, IsOfSome, IsOfFront, IsEntryNaming, AreEntryNamings, AreConfigNamings}
+use Rattle.wv_front.specs.Naming.{Grows, IsOfSome, IsEntryNaming, AreEntryNamings, AreConfigNamings}
 use Rattle.wv_front.proofs.Grown.{stands-one, grows-not, grows-push, grows-both, of-append}
 
 some-same : (j k : ℕ) → Some j ≡ Some k → j ≡ k

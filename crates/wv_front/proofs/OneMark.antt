@@ -1,10 +1,8 @@
 -- Mixins are marked, or are refused in one way.
-use Rattle.std.proofs.Common.{◌≡◌, ℕ, List, refl, ap, sym, ◌∙◌, subst}
-use Rattle.std.specs.List.{AllByRecursion}
+use Rattle.std.proofs.Common.{◌≡◌, List, refl, ap, sym, ◌∙◌, subst}
 use Rattle.wv_base.specs.declared.broken.Broken.{Broken}
 use Rattle.wv_classes.specs.declared.loaded_class.LoadedClass.{LoadedClass}
 use Rattle.wv_front.specs.declared.order.AppliedMixin.{AppliedMixin}
-use Rattle.wv_front.specs.MixinOrder.{StandsAt}
 use Rattle.wv_front.specs.Marked.{IsMarked, IsMarkless, AreMarked, IsFirstMarkless, markless_at}
 use Rattle.wv_front.proofs.FirstOnes.{one-first, none-first}
 use Rattle.wv_front.proofs.Grown.{stands-one}

@@ -1,6 +1,5 @@
 -- Listed classes are there, or are refused in one way.
-use Rattle.std.proofs.Common.{◌≡◌, ℕ, List, ◌++◌, All, Contains, codes, refl, ap, sym, ◌∙◌, subst, map, Result, Ok, Err, OnOk, IfErr}
-use Rattle.std.specs.List.{AllByRecursion}
+use Rattle.std.proofs.Common.{◌≡◌, ℕ, List, codes, ap, sym, ◌∙◌, subst, map, Result, Ok, Err, OnOk, IfErr}
 use Rattle.std.proofs.lemmas.List.Sorted.{All-permutation, IsPermutation-sym}
 use Rattle.wv_base.specs.declared.broken.Broken.{Broken}
 use Rattle.wv_base.specs.declared.rule.Rule.TheVariants.{MixinMissing}

@@ -1,5 +1,5 @@
 -- The annotation `@Mixin` of a class, and its priority (Mixin 0.8.5).
-use Rattle.std.specs.Prelude.{◌≡◌, ◌==◌, if◌then◌else◌, ℕ, ℤ, Bool, List, Option, Some, None, bytes_eq, codes}
+use Rattle.std.specs.Prelude.{◌==◌, if◌then◌else◌, ℤ, Bool, Option, Some, None, bytes_eq, codes}
 use Rattle.std.specs.List.{find}
 use Rattle.wv_base.specs.declared.class_file.ClassFile.{ClassFile}
 use Rattle.wv_base.specs.declared.constant.Const.TheVariants.{Integer}

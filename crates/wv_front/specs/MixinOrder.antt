@@ -1,5 +1,5 @@
 -- The mixins that are applied, and their order (Mixin 0.8.5; which of several namings counts is our own).
-use Rattle.std.specs.Prelude.{◌≡◌, ◌≢◌, ◌↔◌, ◌⊎◌, ◌<◌, ◌<ℤ◌, ℕ, ℤ, List, ◌++◌, map, Some, Option, bytes_eq, unwrap_or, length, get_or, Contains, AllPairs}
+use Rattle.std.specs.Prelude.{◌≡◌, ◌≢◌, ◌↔◌, ◌⊎◌, ◌<◌, ◌<ℤ◌, ℕ, ℤ, List, ◌++◌, map, Some, bytes_eq, unwrap_or, length, get_or, Contains, AllPairs}
 use Rattle.std.specs.List.{position}
 use Rattle.std.specs.Ordering.{int_cmp, nat_cmp, ordering_then}
 use Rattle.std.specs.declared.cmp.Ordering.{Ordering}

@@ -1,5 +1,5 @@
 -- Classes by their names (our own).
-use Rattle.std.specs.Prelude.{◌≡◌, ℕ, List, map, bytes_eq, Some}
+use Rattle.std.specs.Prelude.{◌≡◌, ℕ, List, bytes_eq, Some}
 use Rattle.std.specs.List.{position}
 use Rattle.wv_classes.specs.declared.folder_class.FolderClass.{FolderClass}
 use Rattle.wv_classes.specs.declared.loaded_class.LoadedClass.{LoadedClass}

@@ -1,4 +1,3 @@
-use Rattle.std.proofs.Common.{◌≡◌, true, false, sym, ◌∙◌, rules, tests}
 use Rattle.wv_front.proofs.Firsts.{missing-test, found-test}
 use Rattle.wv_front.proofs.Missing.{one-more, missing-here}
 use Rattle.wv_front.proofs.listed.first_missing_of.Goals as goal

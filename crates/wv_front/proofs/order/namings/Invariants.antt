@@ -1,6 +1,5 @@
 use Rattle.std.proofs.Common.{[]}
 use Rattle.wv_config.specs.declared.loaded.LoadedConfig.{LoadedConfig}
-use Rattle.wv_front.specs.Listing.{ArePlaces}
 use Rattle.wv_front.specs.Naming.{Grows, IsOfFront, AreConfigNamings}
 use Rattle.wv_front.proofs.order.namings.Given as goal
 

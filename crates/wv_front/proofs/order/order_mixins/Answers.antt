@@ -1,4 +1,4 @@
-use Rattle.std.proofs.Common.{Vec, Global, List}
+use Rattle.std.proofs.Common.{Vec, Global}
 use Rattle.wv_front.specs.declared.order.AppliedMixin.{AppliedMixin}
 use Rattle.wv_front.proofs.FirstEach.{sorted-named, all-applied, all-ordered}
 use Rattle.wv_front.proofs.order.order_mixins.Goals as goal
