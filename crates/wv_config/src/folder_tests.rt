@@ -6,6 +6,19 @@ use wv_mod::{ModInfo, read_mod};
 
 const PLAIN: &str = r#"{"package":"a"}"#;
 
+const EARLY: &str = r#"{"package":"a","priority":-5}"#;
+
+const LATE: &str = r#"{"package":"a","priority":1001}"#;
+
+const SERVER: &str = r#"{"config":"y.json","environment":"server"}"#;
+
+const REFMAP: &str = r#"{"package":"a","refmap":"r.txt"}"#;
+
+const PLUGIN: &str = r#"{"package":"a","plugin":null}"#;
+
+/// The lists of `mixins` of two mods, the files beside their descriptions, and what is answered.
+type Row = ([&'static str; 2], &'static [(&'static str, &'static str)], &'static str);
+
 /// The folder of these files, which stand in the order of their paths.
 fn folder(alloc: Global, files: &[(&str, &str)]) -> Result<Folder, Fail> {
     let mut folder = Folder::new(alloc);
@@ -65,57 +78,128 @@ fn show(alloc: Global, shown: &mut String, configs: &[LoadedConfig]) -> Result<(
     Ok(())
 }
 
+const LOADED: [Row; 5] = [
+    (["", ""], &[], "| "),
+    // Used configurations by priority, then by mod, then by place.
+    (
+        [r#""z.json","y.json""#, r#""c.json","d.json""#],
+        &[
+            ("mods/aa/y.json", PLAIN),
+            ("mods/aa/z.json", PLAIN),
+            ("mods/bb/c.json", PLAIN),
+            ("mods/bb/d.json", EARLY),
+        ],
+        "mods/bb/d.json@1.1 mods/aa/z.json@0.0 mods/aa/y.json@0.1 mods/bb/c.json@1.0 | ",
+    ),
+    (
+        [r#""z.json""#, r#""c.json""#],
+        &[("mods/aa/z.json", LATE), ("mods/bb/c.json", PLAIN)],
+        "mods/bb/c.json@1.0 mods/aa/z.json@0.0 | ",
+    ),
+    // One that is named more than once, and two of the other side.
+    (
+        [
+            r#"{"config":"y.json","environment":"server"},"z.json",{"config":"y.json","environment":"client"},"y.json""#,
+            r#"{"config":"d.json","environment":"server"},{"config":"c.json","environment":"server"},{"config":"d.json","environment":"server"}"#,
+        ],
+        &[
+            ("mods/aa/y.json", PLAIN),
+            ("mods/aa/z.json", PLAIN),
+            ("mods/bb/c.json", EARLY),
+            ("mods/bb/d.json", LATE),
+        ],
+        "mods/aa/z.json@0.1 mods/aa/y.json@0.2 | mods/bb/c.json@1.1 mods/bb/d.json@1.0 ",
+    ),
+    // A refmap that is there, and one that isn't.
+    (
+        [r#""y.json","z.json""#, ""],
+        &[
+            ("mods/aa/r.json", r#"{"mappings":{}}"#),
+            ("mods/aa/y.json", r#"{"package":"a","refmap":"r.json"}"#),
+            ("mods/aa/z.json", r#"{"package":"a","refmap":"gone.json"}"#),
+        ],
+        "mods/aa/y.json@0.0 mods/aa/z.json@0.1 | ",
+    ),
+];
+
+const BROKEN: [Row; 8] = [
+    (
+        [r#""y.json""#, ""],
+        &[],
+        "20 ConfigMissing at mods/aa/y.json wanted - found -",
+    ),
+    (
+        [r#""y.txt""#, ""],
+        &[("mods/aa/y.txt", PLAIN)],
+        "20 ConfigMissing at mods/aa/y.txt wanted - found -",
+    ),
+    (
+        [r#""META-INF/y.json""#, ""],
+        &[("mods/aa/META-INF/y.json", PLAIN)],
+        "20 ConfigMissing at mods/aa/META-INF/y.json wanted - found -",
+    ),
+    (
+        [SERVER, ""],
+        &[("mods/aa/y.json", "[]")],
+        "21 ConfigBad at mods/aa/y.json wanted - found json",
+    ),
+    (
+        [r#""y.json""#, ""],
+        &[("mods/aa/y.json", r#"{"package":"a","client":1}"#)],
+        "21 ConfigBad at mods/aa/y.json wanted - found client",
+    ),
+    (
+        [r#""y.json""#, ""],
+        &[("mods/aa/y.json", PLUGIN)],
+        "22 PluginNamed at mods/aa/y.json wanted - found -",
+    ),
+    (
+        [SERVER, ""],
+        &[("mods/aa/r.txt", ""), ("mods/aa/y.json", REFMAP)],
+        "23 RefmapBad at mods/aa/r.txt wanted - found -",
+    ),
+    (
+        [r#""y.json""#, ""],
+        &[
+            ("mods/aa/r.txt", r#"{"mappings":{}}"#),
+            ("mods/aa/y.json", REFMAP),
+        ],
+        "23 RefmapBad at mods/aa/r.txt wanted - found -",
+    ),
+];
+
+const FIRST: [Row; 3] = [
+    // Several at once: the least rule, then the first path, which for rule 23 is the refmap's.
+    (
+        [r#""y.json","z.json""#, r#""c.json""#],
+        &[("mods/aa/y.json", PLUGIN), ("mods/aa/z.json", "1")],
+        "20 ConfigMissing at mods/bb/c.json wanted - found -",
+    ),
+    (
+        [r#""z.json","y.json""#, r#""c.json""#],
+        &[
+            ("mods/aa/y.json", "1"),
+            ("mods/aa/z.json", "2"),
+            ("mods/bb/c.json", PLUGIN),
+        ],
+        "21 ConfigBad at mods/aa/y.json wanted - found json",
+    ),
+    (
+        [r#""y.json","z.json""#, ""],
+        &[
+            ("mods/aa/q.json", ""),
+            ("mods/aa/r.json", ""),
+            ("mods/aa/y.json", r#"{"package":"a","refmap":"r.json"}"#),
+            ("mods/aa/z.json", r#"{"package":"a","refmap":"q.json"}"#),
+        ],
+        "23 RefmapBad at mods/aa/q.json wanted - found -",
+    ),
+];
+
 #[test]
 fn what_is_loaded(rt: HostRuntime) -> Result<(), Fail> {
     let alloc = rt.alloc();
-    let early = r#"{"package":"a","priority":-5}"#;
-    let late = r#"{"package":"a","priority":1001}"#;
-    for (lists, files, wanted) in [
-        (["", ""], [].as_slice(), "| "),
-        // Used configurations by priority, then by mod, then by place.
-        (
-            [r#""z.json","y.json""#, r#""c.json","d.json""#],
-            [
-                ("mods/aa/y.json", PLAIN),
-                ("mods/aa/z.json", PLAIN),
-                ("mods/bb/c.json", PLAIN),
-                ("mods/bb/d.json", early),
-            ]
-            .as_slice(),
-            "mods/bb/d.json@1.1 mods/aa/z.json@0.0 mods/aa/y.json@0.1 mods/bb/c.json@1.0 | ",
-        ),
-        (
-            [r#""z.json""#, r#""c.json""#],
-            [("mods/aa/z.json", late), ("mods/bb/c.json", PLAIN)].as_slice(),
-            "mods/bb/c.json@1.0 mods/aa/z.json@0.0 | ",
-        ),
-        // One that is named more than once, and two of the other side.
-        (
-            [
-                r#"{"config":"y.json","environment":"server"},"z.json",{"config":"y.json","environment":"client"},"y.json""#,
-                r#"{"config":"d.json","environment":"server"},{"config":"c.json","environment":"server"},{"config":"d.json","environment":"server"}"#,
-            ],
-            [
-                ("mods/aa/y.json", PLAIN),
-                ("mods/aa/z.json", PLAIN),
-                ("mods/bb/c.json", early),
-                ("mods/bb/d.json", late),
-            ]
-            .as_slice(),
-            "mods/aa/z.json@0.1 mods/aa/y.json@0.2 | mods/bb/c.json@1.1 mods/bb/d.json@1.0 ",
-        ),
-        // A refmap that is there, and one that isn't.
-        (
-            [r#""y.json","z.json""#, ""],
-            [
-                ("mods/aa/r.json", r#"{"mappings":{}}"#),
-                ("mods/aa/y.json", r#"{"package":"a","refmap":"r.json"}"#),
-                ("mods/aa/z.json", r#"{"package":"a","refmap":"gone.json"}"#),
-            ]
-            .as_slice(),
-            "mods/aa/y.json@0.0 mods/aa/z.json@0.1 | ",
-        ),
-    ] {
+    for (lists, files, wanted) in LOADED {
         assert_eq!(rt; answer(alloc, lists, files)?.as_str(), wanted);
     }
     Ok(())
@@ -124,82 +208,17 @@ fn what_is_loaded(rt: HostRuntime) -> Result<(), Fail> {
 #[test]
 fn what_breaks_a_rule(rt: HostRuntime) -> Result<(), Fail> {
     let alloc = rt.alloc();
-    let server = r#"{"config":"y.json","environment":"server"}"#;
-    let refmap = r#"{"package":"a","refmap":"r.txt"}"#;
-    let plugin = r#"{"package":"a","plugin":null}"#;
-    for (lists, files, wanted) in [
-        (
-            [r#""y.json""#, ""],
-            [].as_slice(),
-            "20 ConfigMissing at mods/aa/y.json wanted - found -",
-        ),
-        (
-            [r#""y.txt""#, ""],
-            [("mods/aa/y.txt", PLAIN)].as_slice(),
-            "20 ConfigMissing at mods/aa/y.txt wanted - found -",
-        ),
-        (
-            [r#""META-INF/y.json""#, ""],
-            [("mods/aa/META-INF/y.json", PLAIN)].as_slice(),
-            "20 ConfigMissing at mods/aa/META-INF/y.json wanted - found -",
-        ),
-        (
-            [server, ""],
-            [("mods/aa/y.json", "[]")].as_slice(),
-            "21 ConfigBad at mods/aa/y.json wanted - found json",
-        ),
-        (
-            [r#""y.json""#, ""],
-            [("mods/aa/y.json", r#"{"package":"a","client":1}"#)].as_slice(),
-            "21 ConfigBad at mods/aa/y.json wanted - found client",
-        ),
-        (
-            [r#""y.json""#, ""],
-            [("mods/aa/y.json", plugin)].as_slice(),
-            "22 PluginNamed at mods/aa/y.json wanted - found -",
-        ),
-        (
-            [server, ""],
-            [("mods/aa/r.txt", ""), ("mods/aa/y.json", refmap)].as_slice(),
-            "23 RefmapBad at mods/aa/r.txt wanted - found -",
-        ),
-        (
-            [r#""y.json""#, ""],
-            [
-                ("mods/aa/r.txt", r#"{"mappings":{}}"#),
-                ("mods/aa/y.json", refmap),
-            ]
-            .as_slice(),
-            "23 RefmapBad at mods/aa/r.txt wanted - found -",
-        ),
-        // Several at once: the least rule, then the first path, which for rule 23 is the refmap's.
-        (
-            [r#""y.json","z.json""#, r#""c.json""#],
-            [("mods/aa/y.json", plugin), ("mods/aa/z.json", "1")].as_slice(),
-            "20 ConfigMissing at mods/bb/c.json wanted - found -",
-        ),
-        (
-            [r#""z.json","y.json""#, r#""c.json""#],
-            [
-                ("mods/aa/y.json", "1"),
-                ("mods/aa/z.json", "2"),
-                ("mods/bb/c.json", plugin),
-            ]
-            .as_slice(),
-            "21 ConfigBad at mods/aa/y.json wanted - found json",
-        ),
-        (
-            [r#""y.json","z.json""#, ""],
-            [
-                ("mods/aa/q.json", ""),
-                ("mods/aa/r.json", ""),
-                ("mods/aa/y.json", r#"{"package":"a","refmap":"r.json"}"#),
-                ("mods/aa/z.json", r#"{"package":"a","refmap":"q.json"}"#),
-            ]
-            .as_slice(),
-            "23 RefmapBad at mods/aa/q.json wanted - found -",
-        ),
-    ] {
+    for (lists, files, wanted) in BROKEN {
+        let wanted = format!(in alloc; "refused: rule {wanted}\n")?;
+        assert_eq!(rt; answer(alloc, lists, files)?.as_str(), wanted.as_str());
+    }
+    Ok(())
+}
+
+#[test]
+fn which_rule_is_first(rt: HostRuntime) -> Result<(), Fail> {
+    let alloc = rt.alloc();
+    for (lists, files, wanted) in FIRST {
         let wanted = format!(in alloc; "refused: rule {wanted}\n")?;
         assert_eq!(rt; answer(alloc, lists, files)?.as_str(), wanted.as_str());
     }
