@@ -1,0 +1,9 @@
+pub mod Sets
+pub mod Behind
+pub mod Contents
+pub mod Reading
+pub mod Spelling
+pub mod Breaking
+pub mod Leasts
+pub mod OneReading
+pub mod Loading
