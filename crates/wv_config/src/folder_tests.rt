@@ -20,9 +20,9 @@ fn folder(alloc: Global, files: &[(&str, &str)]) -> Result<Folder, Fail> {
 }
 
 /// The mods `a` and `b` with these lists of `mixins`.
-fn mods(alloc: Global, lists: [&str; 2]) -> Result<Vec<ModInfo>, Fail> {
+fn mods(alloc: Global, first: &str, second: &str) -> Result<Vec<ModInfo>, Fail> {
     let mut mods = Vec::new(alloc);
-    for (name, list) in [("aa", lists[0]), ("bb", lists[1])] {
+    for (name, list) in [("aa", first), ("bb", second)] {
         let path = Text::from_string(format!(in alloc; "mods/{name}/fabric.mod.json")?);
         let mut text = String::from_str(alloc, r#"{"schemaVersion":1,"version":"1","id":""#)?;
         text.push_str(name)?;
@@ -35,9 +35,14 @@ fn mods(alloc: Global, lists: [&str; 2]) -> Result<Vec<ModInfo>, Fail> {
 }
 
 /// The used configurations and the others with their places, or the line that refuses them.
-fn answer(alloc: Global, lists: [&str; 2], files: &[(&str, &str)]) -> Result<String, Fail> {
+fn answer(
+    alloc: Global,
+    first: &str,
+    second: &str,
+    files: &[(&str, &str)],
+) -> Result<String, Fail> {
     let folder = folder(alloc, files)?;
-    let mods = mods(alloc, lists)?;
+    let mods = mods(alloc, first, second)?;
     match load_configs(alloc, &folder, mods.as_slice(), Side::Client) {
         Ok(configs) => {
             let mut shown = String::new(alloc);
@@ -70,11 +75,12 @@ fn what_is_loaded(rt: HostRuntime) -> Result<(), Fail> {
     let alloc = rt.alloc();
     let early = r#"{"package":"a","priority":-5}"#;
     let late = r#"{"package":"a","priority":1001}"#;
-    for (lists, files, wanted) in [
-        (["", ""], [].as_slice(), "| "),
+    for (first, second, files, wanted) in [
+        ("", "", [].as_slice(), "| "),
         // Used configurations by priority, then by mod, then by place.
         (
-            [r#""z.json","y.json""#, r#""c.json","d.json""#],
+            r#""z.json","y.json""#,
+            r#""c.json","d.json""#,
             [
                 ("mods/aa/y.json", PLAIN),
                 ("mods/aa/z.json", PLAIN),
@@ -85,16 +91,15 @@ fn what_is_loaded(rt: HostRuntime) -> Result<(), Fail> {
             "mods/bb/d.json@1.1 mods/aa/z.json@0.0 mods/aa/y.json@0.1 mods/bb/c.json@1.0 | ",
         ),
         (
-            [r#""z.json""#, r#""c.json""#],
+            r#""z.json""#,
+            r#""c.json""#,
             [("mods/aa/z.json", late), ("mods/bb/c.json", PLAIN)].as_slice(),
             "mods/bb/c.json@1.0 mods/aa/z.json@0.0 | ",
         ),
         // One that is named more than once, and two of the other side.
         (
-            [
-                r#"{"config":"y.json","environment":"server"},"z.json",{"config":"y.json","environment":"client"},"y.json""#,
-                r#"{"config":"d.json","environment":"server"},{"config":"c.json","environment":"server"},{"config":"d.json","environment":"server"}"#,
-            ],
+            r#"{"config":"y.json","environment":"server"},"z.json",{"config":"y.json","environment":"client"},"y.json""#,
+            r#"{"config":"d.json","environment":"server"},{"config":"c.json","environment":"server"},{"config":"d.json","environment":"server"}"#,
             [
                 ("mods/aa/y.json", PLAIN),
                 ("mods/aa/z.json", PLAIN),
@@ -106,7 +111,8 @@ fn what_is_loaded(rt: HostRuntime) -> Result<(), Fail> {
         ),
         // A refmap that is there, and one that isn't.
         (
-            [r#""y.json","z.json""#, ""],
+            r#""y.json","z.json""#,
+            "",
             [
                 ("mods/aa/r.json", r#"{"mappings":{}}"#),
                 ("mods/aa/y.json", r#"{"package":"a","refmap":"r.json"}"#),
@@ -116,7 +122,7 @@ fn what_is_loaded(rt: HostRuntime) -> Result<(), Fail> {
             "mods/aa/y.json@0.0 mods/aa/z.json@0.1 | ",
         ),
     ] {
-        assert_eq!(rt; answer(alloc, lists, files)?.as_str(), wanted);
+        assert_eq!(rt; answer(alloc, first, second, files)?.as_str(), wanted);
     }
     Ok(())
 }
@@ -127,44 +133,52 @@ fn what_breaks_a_rule(rt: HostRuntime) -> Result<(), Fail> {
     let server = r#"{"config":"y.json","environment":"server"}"#;
     let refmap = r#"{"package":"a","refmap":"r.txt"}"#;
     let plugin = r#"{"package":"a","plugin":null}"#;
-    for (lists, files, wanted) in [
+    for (first, second, files, wanted) in [
         (
-            [r#""y.json""#, ""],
+            r#""y.json""#,
+            "",
             [].as_slice(),
             "20 ConfigMissing at mods/aa/y.json wanted - found -",
         ),
         (
-            [r#""y.txt""#, ""],
+            r#""y.txt""#,
+            "",
             [("mods/aa/y.txt", PLAIN)].as_slice(),
             "20 ConfigMissing at mods/aa/y.txt wanted - found -",
         ),
         (
-            [r#""META-INF/y.json""#, ""],
+            r#""META-INF/y.json""#,
+            "",
             [("mods/aa/META-INF/y.json", PLAIN)].as_slice(),
             "20 ConfigMissing at mods/aa/META-INF/y.json wanted - found -",
         ),
         (
-            [server, ""],
+            server,
+            "",
             [("mods/aa/y.json", "[]")].as_slice(),
             "21 ConfigBad at mods/aa/y.json wanted - found json",
         ),
         (
-            [r#""y.json""#, ""],
+            r#""y.json""#,
+            "",
             [("mods/aa/y.json", r#"{"package":"a","client":1}"#)].as_slice(),
             "21 ConfigBad at mods/aa/y.json wanted - found client",
         ),
         (
-            [r#""y.json""#, ""],
+            r#""y.json""#,
+            "",
             [("mods/aa/y.json", plugin)].as_slice(),
             "22 PluginNamed at mods/aa/y.json wanted - found -",
         ),
         (
-            [server, ""],
+            server,
+            "",
             [("mods/aa/r.txt", ""), ("mods/aa/y.json", refmap)].as_slice(),
             "23 RefmapBad at mods/aa/r.txt wanted - found -",
         ),
         (
-            [r#""y.json""#, ""],
+            r#""y.json""#,
+            "",
             [
                 ("mods/aa/r.txt", r#"{"mappings":{}}"#),
                 ("mods/aa/y.json", refmap),
@@ -174,12 +188,14 @@ fn what_breaks_a_rule(rt: HostRuntime) -> Result<(), Fail> {
         ),
         // Several at once: the least rule, then the first path, which for rule 23 is the refmap's.
         (
-            [r#""y.json","z.json""#, r#""c.json""#],
+            r#""y.json","z.json""#,
+            r#""c.json""#,
             [("mods/aa/y.json", plugin), ("mods/aa/z.json", "1")].as_slice(),
             "20 ConfigMissing at mods/bb/c.json wanted - found -",
         ),
         (
-            [r#""z.json","y.json""#, r#""c.json""#],
+            r#""z.json","y.json""#,
+            r#""c.json""#,
             [
                 ("mods/aa/y.json", "1"),
                 ("mods/aa/z.json", "2"),
@@ -189,7 +205,8 @@ fn what_breaks_a_rule(rt: HostRuntime) -> Result<(), Fail> {
             "21 ConfigBad at mods/aa/y.json wanted - found json",
         ),
         (
-            [r#""y.json","z.json""#, ""],
+            r#""y.json","z.json""#,
+            "",
             [
                 ("mods/aa/q.json", ""),
                 ("mods/aa/r.json", ""),
@@ -201,7 +218,10 @@ fn what_breaks_a_rule(rt: HostRuntime) -> Result<(), Fail> {
         ),
     ] {
         let wanted = format!(in alloc; "refused: rule {wanted}\n")?;
-        assert_eq!(rt; answer(alloc, lists, files)?.as_str(), wanted.as_str());
+        assert_eq!(rt;
+            answer(alloc, first, second, files)?.as_str(),
+            wanted.as_str()
+        );
     }
     Ok(())
 }
