@@ -33,9 +33,9 @@ fn folder(alloc: Global, files: &[(&str, &str)]) -> Result<Folder, Fail> {
 }
 
 /// The mods `a` and `b` with these lists of `mixins`.
-fn mods(alloc: Global, lists: [&str; 2]) -> Result<Vec<ModInfo>, Fail> {
+fn mods(alloc: Global, first: &str, second: &str) -> Result<Vec<ModInfo>, Fail> {
     let mut mods = Vec::new(alloc);
-    for (name, list) in [("aa", lists[0]), ("bb", lists[1])] {
+    for (name, list) in [("aa", first), ("bb", second)] {
         let path = Text::from_string(format!(in alloc; "mods/{name}/fabric.mod.json")?);
         let mut text = String::from_str(alloc, r#"{"schemaVersion":1,"version":"1","id":""#)?;
         text.push_str(name)?;
@@ -48,9 +48,14 @@ fn mods(alloc: Global, lists: [&str; 2]) -> Result<Vec<ModInfo>, Fail> {
 }
 
 /// The used configurations and the others with their places, or the line that refuses them.
-fn answer(alloc: Global, lists: [&str; 2], files: &[(&str, &str)]) -> Result<String, Fail> {
+fn answer(
+    alloc: Global,
+    first: &str,
+    second: &str,
+    files: &[(&str, &str)],
+) -> Result<String, Fail> {
     let folder = folder(alloc, files)?;
-    let mods = mods(alloc, lists)?;
+    let mods = mods(alloc, first, second)?;
     match load_configs(alloc, &folder, mods.as_slice(), Side::Client) {
         Ok(configs) => {
             let mut shown = String::new(alloc);
@@ -199,8 +204,56 @@ const FIRST: [Row; 3] = [
 #[test]
 fn what_is_loaded(rt: HostRuntime) -> Result<(), Fail> {
     let alloc = rt.alloc();
-    for (lists, files, wanted) in LOADED {
-        assert_eq!(rt; answer(alloc, lists, files)?.as_str(), wanted);
+    let early = r#"{"package":"a","priority":-5}"#;
+    let late = r#"{"package":"a","priority":1001}"#;
+    for (first, second, files, wanted) in [
+        ("", "", [].as_slice(), "| "),
+        // Used configurations by priority, then by mod, then by place.
+        (
+            r#""z.json","y.json""#,
+            r#""c.json","d.json""#,
+            [
+                ("mods/aa/y.json", PLAIN),
+                ("mods/aa/z.json", PLAIN),
+                ("mods/bb/c.json", PLAIN),
+                ("mods/bb/d.json", early),
+            ]
+            .as_slice(),
+            "mods/bb/d.json@1.1 mods/aa/z.json@0.0 mods/aa/y.json@0.1 mods/bb/c.json@1.0 | ",
+        ),
+        (
+            r#""z.json""#,
+            r#""c.json""#,
+            [("mods/aa/z.json", late), ("mods/bb/c.json", PLAIN)].as_slice(),
+            "mods/bb/c.json@1.0 mods/aa/z.json@0.0 | ",
+        ),
+        // One that is named more than once, and two of the other side.
+        (
+            r#"{"config":"y.json","environment":"server"},"z.json",{"config":"y.json","environment":"client"},"y.json""#,
+            r#"{"config":"d.json","environment":"server"},{"config":"c.json","environment":"server"},{"config":"d.json","environment":"server"}"#,
+            [
+                ("mods/aa/y.json", PLAIN),
+                ("mods/aa/z.json", PLAIN),
+                ("mods/bb/c.json", early),
+                ("mods/bb/d.json", late),
+            ]
+            .as_slice(),
+            "mods/aa/z.json@0.1 mods/aa/y.json@0.2 | mods/bb/c.json@1.1 mods/bb/d.json@1.0 ",
+        ),
+        // A refmap that is there, and one that isn't.
+        (
+            r#""y.json","z.json""#,
+            "",
+            [
+                ("mods/aa/r.json", r#"{"mappings":{}}"#),
+                ("mods/aa/y.json", r#"{"package":"a","refmap":"r.json"}"#),
+                ("mods/aa/z.json", r#"{"package":"a","refmap":"gone.json"}"#),
+            ]
+            .as_slice(),
+            "mods/aa/y.json@0.0 mods/aa/z.json@0.1 | ",
+        ),
+    ] {
+        assert_eq!(rt; answer(alloc, first, second, files)?.as_str(), wanted);
     }
     Ok(())
 }
@@ -208,19 +261,98 @@ fn what_is_loaded(rt: HostRuntime) -> Result<(), Fail> {
 #[test]
 fn what_breaks_a_rule(rt: HostRuntime) -> Result<(), Fail> {
     let alloc = rt.alloc();
-    for (lists, files, wanted) in BROKEN {
+    let server = r#"{"config":"y.json","environment":"server"}"#;
+    let refmap = r#"{"package":"a","refmap":"r.txt"}"#;
+    let plugin = r#"{"package":"a","plugin":null}"#;
+    for (first, second, files, wanted) in [
+        (
+            r#""y.json""#,
+            "",
+            [].as_slice(),
+            "20 ConfigMissing at mods/aa/y.json wanted - found -",
+        ),
+        (
+            r#""y.txt""#,
+            "",
+            [("mods/aa/y.txt", PLAIN)].as_slice(),
+            "20 ConfigMissing at mods/aa/y.txt wanted - found -",
+        ),
+        (
+            r#""META-INF/y.json""#,
+            "",
+            [("mods/aa/META-INF/y.json", PLAIN)].as_slice(),
+            "20 ConfigMissing at mods/aa/META-INF/y.json wanted - found -",
+        ),
+        (
+            server,
+            "",
+            [("mods/aa/y.json", "[]")].as_slice(),
+            "21 ConfigBad at mods/aa/y.json wanted - found json",
+        ),
+        (
+            r#""y.json""#,
+            "",
+            [("mods/aa/y.json", r#"{"package":"a","client":1}"#)].as_slice(),
+            "21 ConfigBad at mods/aa/y.json wanted - found client",
+        ),
+        (
+            r#""y.json""#,
+            "",
+            [("mods/aa/y.json", plugin)].as_slice(),
+            "22 PluginNamed at mods/aa/y.json wanted - found -",
+        ),
+        (
+            server,
+            "",
+            [("mods/aa/r.txt", ""), ("mods/aa/y.json", refmap)].as_slice(),
+            "23 RefmapBad at mods/aa/r.txt wanted - found -",
+        ),
+        (
+            r#""y.json""#,
+            "",
+            [
+                ("mods/aa/r.txt", r#"{"mappings":{}}"#),
+                ("mods/aa/y.json", refmap),
+            ]
+            .as_slice(),
+            "23 RefmapBad at mods/aa/r.txt wanted - found -",
+        ),
+        // Several at once: the least rule, then the first path, which for rule 23 is the refmap's.
+        (
+            r#""y.json","z.json""#,
+            r#""c.json""#,
+            [("mods/aa/y.json", plugin), ("mods/aa/z.json", "1")].as_slice(),
+            "20 ConfigMissing at mods/bb/c.json wanted - found -",
+        ),
+        (
+            r#""z.json","y.json""#,
+            r#""c.json""#,
+            [
+                ("mods/aa/y.json", "1"),
+                ("mods/aa/z.json", "2"),
+                ("mods/bb/c.json", plugin),
+            ]
+            .as_slice(),
+            "21 ConfigBad at mods/aa/y.json wanted - found json",
+        ),
+        (
+            r#""y.json","z.json""#,
+            "",
+            [
+                ("mods/aa/q.json", ""),
+                ("mods/aa/r.json", ""),
+                ("mods/aa/y.json", r#"{"package":"a","refmap":"r.json"}"#),
+                ("mods/aa/z.json", r#"{"package":"a","refmap":"q.json"}"#),
+            ]
+            .as_slice(),
+            "23 RefmapBad at mods/aa/q.json wanted - found -",
+        ),
+    ] {
         let wanted = format!(in alloc; "refused: rule {wanted}\n")?;
-        assert_eq!(rt; answer(alloc, lists, files)?.as_str(), wanted.as_str());
-    }
-    Ok(())
-}
-
-#[test]
-fn which_rule_is_first(rt: HostRuntime) -> Result<(), Fail> {
-    let alloc = rt.alloc();
-    for (lists, files, wanted) in FIRST {
-        let wanted = format!(in alloc; "refused: rule {wanted}\n")?;
-        assert_eq!(rt; answer(alloc, lists, files)?.as_str(), wanted.as_str());
+        assert_eq!(rt;
+            answer(alloc, first, second, files)?.as_str(),
+            wanted.as_str()
+        );
     }
     Ok(())
 }
