@@ -4,12 +4,14 @@ use std::test::Fail;
 use wv_base::{Bytes, Folder, LINE, Side, Text, write_broken};
 use wv_mod::{ModInfo, read_mod};
 
-const PLAIN: &str = r#"{"package":"a"}"#;
-
-/// The folder of these files, which stand in the order of their paths.
-fn folder(alloc: Global, files: &[(&str, &str)]) -> Result<Folder, Fail> {
+/// The folder of these files, which stand in the order of their paths: a line each, with the path, a
+/// space and the content.
+fn folder(alloc: Global, files: &str) -> Result<Folder, Fail> {
     let mut folder = Folder::new(alloc);
-    for (path, content) in files {
+    for line in files.lines() {
+        let Some((path, content)) = line.split_once(' ') else {
+            return Err(Fail::from("a file without content"));
+        };
         let path = Text::from_str(alloc, path)?;
         if !folder.takes(&path) {
             return Err(Fail::from("a path out of order"));
@@ -35,12 +37,7 @@ fn mods(alloc: Global, first: &str, second: &str) -> Result<Vec<ModInfo>, Fail> 
 }
 
 /// The used configurations and the others with their places, or the line that refuses them.
-fn answer(
-    alloc: Global,
-    first: &str,
-    second: &str,
-    files: &[(&str, &str)],
-) -> Result<String, Fail> {
+fn answer(alloc: Global, first: &str, second: &str, files: &str) -> Result<String, Fail> {
     let folder = folder(alloc, files)?;
     let mods = mods(alloc, first, second)?;
     match load_configs(alloc, &folder, mods.as_slice(), Side::Client) {
@@ -73,52 +70,42 @@ fn show(alloc: Global, shown: &mut String, configs: &[LoadedConfig]) -> Result<(
 #[test]
 fn what_is_loaded(rt: HostRuntime) -> Result<(), Fail> {
     let alloc = rt.alloc();
-    let early = r#"{"package":"a","priority":-5}"#;
-    let late = r#"{"package":"a","priority":1001}"#;
     for (first, second, files, wanted) in [
-        ("", "", [].as_slice(), "| "),
+        ("", "", "", "| "),
         // Used configurations by priority, then by mod, then by place.
         (
             r#""z.json","y.json""#,
             r#""c.json","d.json""#,
-            [
-                ("mods/aa/y.json", PLAIN),
-                ("mods/aa/z.json", PLAIN),
-                ("mods/bb/c.json", PLAIN),
-                ("mods/bb/d.json", early),
-            ]
-            .as_slice(),
+            r#"mods/aa/y.json {"package":"a"}
+mods/aa/z.json {"package":"a"}
+mods/bb/c.json {"package":"a"}
+mods/bb/d.json {"package":"a","priority":-5}"#,
             "mods/bb/d.json@1.1 mods/aa/z.json@0.0 mods/aa/y.json@0.1 mods/bb/c.json@1.0 | ",
         ),
         (
             r#""z.json""#,
             r#""c.json""#,
-            [("mods/aa/z.json", late), ("mods/bb/c.json", PLAIN)].as_slice(),
+            r#"mods/aa/z.json {"package":"a","priority":1001}
+mods/bb/c.json {"package":"a"}"#,
             "mods/bb/c.json@1.0 mods/aa/z.json@0.0 | ",
         ),
         // One that is named more than once, and two of the other side.
         (
             r#"{"config":"y.json","environment":"server"},"z.json",{"config":"y.json","environment":"client"},"y.json""#,
             r#"{"config":"d.json","environment":"server"},{"config":"c.json","environment":"server"},{"config":"d.json","environment":"server"}"#,
-            [
-                ("mods/aa/y.json", PLAIN),
-                ("mods/aa/z.json", PLAIN),
-                ("mods/bb/c.json", early),
-                ("mods/bb/d.json", late),
-            ]
-            .as_slice(),
+            r#"mods/aa/y.json {"package":"a"}
+mods/aa/z.json {"package":"a"}
+mods/bb/c.json {"package":"a","priority":-5}
+mods/bb/d.json {"package":"a","priority":1001}"#,
             "mods/aa/z.json@0.1 mods/aa/y.json@0.2 | mods/bb/c.json@1.1 mods/bb/d.json@1.0 ",
         ),
         // A refmap that is there, and one that isn't.
         (
             r#""y.json","z.json""#,
             "",
-            [
-                ("mods/aa/r.json", r#"{"mappings":{}}"#),
-                ("mods/aa/y.json", r#"{"package":"a","refmap":"r.json"}"#),
-                ("mods/aa/z.json", r#"{"package":"a","refmap":"gone.json"}"#),
-            ]
-            .as_slice(),
+            r#"mods/aa/r.json {"mappings":{}}
+mods/aa/y.json {"package":"a","refmap":"r.json"}
+mods/aa/z.json {"package":"a","refmap":"gone.json"}"#,
             "mods/aa/y.json@0.0 mods/aa/z.json@0.1 | ",
         ),
     ] {
@@ -131,89 +118,80 @@ fn what_is_loaded(rt: HostRuntime) -> Result<(), Fail> {
 fn what_breaks_a_rule(rt: HostRuntime) -> Result<(), Fail> {
     let alloc = rt.alloc();
     let server = r#"{"config":"y.json","environment":"server"}"#;
-    let refmap = r#"{"package":"a","refmap":"r.txt"}"#;
-    let plugin = r#"{"package":"a","plugin":null}"#;
     for (first, second, files, wanted) in [
         (
             r#""y.json""#,
             "",
-            [].as_slice(),
+            "",
             "20 ConfigMissing at mods/aa/y.json wanted - found -",
         ),
         (
             r#""y.txt""#,
             "",
-            [("mods/aa/y.txt", PLAIN)].as_slice(),
+            r#"mods/aa/y.txt {"package":"a"}"#,
             "20 ConfigMissing at mods/aa/y.txt wanted - found -",
         ),
         (
             r#""META-INF/y.json""#,
             "",
-            [("mods/aa/META-INF/y.json", PLAIN)].as_slice(),
+            r#"mods/aa/META-INF/y.json {"package":"a"}"#,
             "20 ConfigMissing at mods/aa/META-INF/y.json wanted - found -",
         ),
         (
             server,
             "",
-            [("mods/aa/y.json", "[]")].as_slice(),
+            "mods/aa/y.json []",
             "21 ConfigBad at mods/aa/y.json wanted - found json",
         ),
         (
             r#""y.json""#,
             "",
-            [("mods/aa/y.json", r#"{"package":"a","client":1}"#)].as_slice(),
+            r#"mods/aa/y.json {"package":"a","client":1}"#,
             "21 ConfigBad at mods/aa/y.json wanted - found client",
         ),
         (
             r#""y.json""#,
             "",
-            [("mods/aa/y.json", plugin)].as_slice(),
+            r#"mods/aa/y.json {"package":"a","plugin":null}"#,
             "22 PluginNamed at mods/aa/y.json wanted - found -",
         ),
         (
             server,
             "",
-            [("mods/aa/r.txt", ""), ("mods/aa/y.json", refmap)].as_slice(),
+            r#"mods/aa/r.txt -
+mods/aa/y.json {"package":"a","refmap":"r.txt"}"#,
             "23 RefmapBad at mods/aa/r.txt wanted - found -",
         ),
         (
             r#""y.json""#,
             "",
-            [
-                ("mods/aa/r.txt", r#"{"mappings":{}}"#),
-                ("mods/aa/y.json", refmap),
-            ]
-            .as_slice(),
+            r#"mods/aa/r.txt {"mappings":{}}
+mods/aa/y.json {"package":"a","refmap":"r.txt"}"#,
             "23 RefmapBad at mods/aa/r.txt wanted - found -",
         ),
         // Several at once: the least rule, then the first path, which for rule 23 is the refmap's.
         (
             r#""y.json","z.json""#,
             r#""c.json""#,
-            [("mods/aa/y.json", plugin), ("mods/aa/z.json", "1")].as_slice(),
+            r#"mods/aa/y.json {"package":"a","plugin":null}
+mods/aa/z.json 1"#,
             "20 ConfigMissing at mods/bb/c.json wanted - found -",
         ),
         (
             r#""z.json","y.json""#,
             r#""c.json""#,
-            [
-                ("mods/aa/y.json", "1"),
-                ("mods/aa/z.json", "2"),
-                ("mods/bb/c.json", plugin),
-            ]
-            .as_slice(),
+            r#"mods/aa/y.json 1
+mods/aa/z.json 2
+mods/bb/c.json {"package":"a","plugin":null}"#,
             "21 ConfigBad at mods/aa/y.json wanted - found json",
         ),
         (
             r#""y.json","z.json""#,
             "",
-            [
-                ("mods/aa/q.json", ""),
-                ("mods/aa/r.json", ""),
-                ("mods/aa/y.json", r#"{"package":"a","refmap":"r.json"}"#),
-                ("mods/aa/z.json", r#"{"package":"a","refmap":"q.json"}"#),
-            ]
-            .as_slice(),
+            r#"mods/aa/q.json -
+mods/aa/r.json -
+mods/aa/y.json {"package":"a","refmap":"r.json"}
+mods/aa/z.json {"package":"a","refmap":"q.json"}"#,
             "23 RefmapBad at mods/aa/q.json wanted - found -",
         ),
     ] {
