@@ -42,13 +42,12 @@ any-zip R P Q to (w ∷ xs) (y ∷ ys) zip x found h = elim (contains-cases w xs
 ]
 
 of-folder : (folder : List File) (side : Side) (file : FolderClass) (loaded : LoadedClass) → IsFolderClass folder side file → IsLoadedAs file loaded → IsLoadedClass folder side loaded
-of-folder folder side file loaded (content, is, read) h =
-    (
-      content,
-      subst (λ (p : List ℕ). IsClassFile folder side p loaded.name content) (sym h.path) (subst (λ (n : List ℕ). IsClassFile folder side file.path n content) (sym h.name) is),
-      subst (IsReadOf content) h.read read,
-      h.own,
-    )
+of-folder folder side file loaded (content, is, read) h = (
+  content,
+  subst (λ (p : List ℕ). IsClassFile folder side p loaded.name content) (sym h.path) (subst (λ (n : List ℕ). IsClassFile folder side file.path n content) (sym h.name) is),
+  subst (IsReadOf content) h.read read,
+  h.own,
+)
 
 pub are-loaded : (folder : List File) (side : Side) (files : List FolderClass) (loaded : List LoadedClass) → AreFolderClasses folder side files → AllZip IsLoadedAs files loaded → AreLoadedClasses folder side loaded
 are-loaded folder side files loaded are zip = record {
