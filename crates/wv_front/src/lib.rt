@@ -24,6 +24,7 @@ pub use marked::check_marked;
 pub use opened::{opening, opening_cut};
 pub use opening_laws::{files_opened_as_read, one_opening_refusal, one_passing, opened_or_refused};
 pub use order::{AppliedMixin, order_mixins};
+pub use places::ClassPlaces;
 
 #[cfg(test)]
 mod opening_tests;

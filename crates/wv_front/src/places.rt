@@ -10,7 +10,7 @@ use wv_classes::{FolderClass, LoadedClass};
 
 /// The places of classes in their list, by their names. Of classes with one name it is the first.
 #[derive(Drop)]
-pub(crate) struct ClassPlaces {
+pub struct ClassPlaces {
     places: BTreeMap<Text, usize>,
 }
 
@@ -27,7 +27,8 @@ impl ClassPlaces {
         Ok(places)
     }
 
-    pub(crate) fn of_loaded(alloc: Global, classes: &[LoadedClass]) -> Result<ClassPlaces, Memory>
+    /// The places of classes by the names that their paths say.
+    pub fn of_loaded(alloc: Global, classes: &[LoadedClass]) -> Result<ClassPlaces, Memory>
         ensures { IfOk result (ArePlaces (map loaded_name classes.now)) }
     {
         let mut places = ClassPlaces::none(alloc);
@@ -57,7 +58,7 @@ impl ClassPlaces {
     }
 
     /// The place of the class of this name. It takes time logarithmic in the number of classes.
-    pub(crate) fn place(&self, name: &Text) -> Option<usize>
+    pub fn place(&self, name: &Text) -> Option<usize>
         ensures { (names : List (List ℕ)) → ArePlaces names self.now
             → result ≡ position (bytes_eq name.now) names }
     {
