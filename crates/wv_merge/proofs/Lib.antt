@@ -1,0 +1,10 @@
+pub mod ChangedForm
+pub mod ChangedLimits
+pub mod MergedClasses
+pub mod NoteTests
+pub mod PlainTests
+pub mod ReadMethods
+pub mod Tables
+pub mod ThinLists
+pub mod TypingChecks
+pub mod WrittenTable

@@ -1,0 +1,10 @@
+pub mod Role
+pub mod Marks
+pub mod ThinClass
+pub mod Checking
+pub mod Plain
+pub mod Applied
+pub mod Written
+pub mod Overwriting
+pub mod Renaming
+pub mod Merging
