@@ -1,0 +1,14 @@
+pub mod PlaceTables
+pub mod OneTarget
+pub mod NameTexts
+pub mod Mapped
+pub mod KnownFiles
+pub mod KnownList
+pub mod Others
+pub mod Forms
+pub mod Passing
+pub mod Splits
+pub mod OneForm
+pub mod Having
+pub mod Checked
+pub mod NameSets
