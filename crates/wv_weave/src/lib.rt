@@ -1,21 +1,12 @@
-//! The weaver: mixins are merged into game classes, and the classes are written.
+//! The weaver: mixins are merged into the classes of a folder, and the classes are written.
 #![tactic(auto)]
 
-mod class_read;
-mod fault;
-mod form;
+mod front;
 mod laws;
-mod note;
-mod opcode;
-mod outside;
-mod overwrite;
-mod plain;
-mod refusal;
-mod role;
-mod thin;
-mod typing;
+mod listed;
+mod merging;
+mod outgoing;
 mod weaver;
 
-pub use fault::WeaveFault;
-pub use laws::{jars_count, one_first_broken, woven_corresponds};
+pub use laws::one_first_broken;
 pub use weaver::{Woven, weave};

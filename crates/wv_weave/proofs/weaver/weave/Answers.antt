@@ -1,62 +1,74 @@
-use Rattle.std.proofs.Common.{◌∙◌, subst}
-use Rattle.wv_model.specs.PlainCode.{Game, Mixin}
-use Rattle.wv_weave.specs.ClassRead.{IsReadOf}
-use Rattle.wv_weave.specs.FirstForm.{class_path, bad_layout, bad_reference, out_of_form}
-use Rattle.wv_weave.proofs.OutsidePlaces.{form_holds}
-use Rattle.wv_weave.proofs.WeaveAnswers.{IsAnswer, answer_broken, answer_means, answer_woven, applied_read, game_fits, game_layout, game_reference, has_bytes, mixin_fits, outside_first, told}
+use Rattle.std.proofs.Common.{List, length, ap, sym, refl, ◌∙◌}
+use Rattle.std.proofs.lemmas.Result.{err_from_is_err_and}
+use Rattle.wv_base.specs.declared.broken.Broken.{Broken}
+use Rattle.wv_front.specs.declared.fault.WeaveFault.{WeaveFault}
+use Rattle.wv_weave.specs.Overwrites.{IsFirstLacking}
+use Rattle.wv_weave.specs.Stages.{IsFirstBroken}
+use Rattle.wv_weave.proofs.FrontFaults.{fault-weaker}
+use Rattle.wv_weave.proofs.LastStage.{last-broken, none-broken}
+use Rattle.wv_weave.proofs.WeaveClauses.{all-placed, ascending, edits-long, is-woven, means-folder, writable}
 use Rattle.wv_weave.proofs.weaver.weave.Goals as goal
-use Rattle.wv_weave.proofs.weaver.weave.Goals.{in-Layout+in_ok-broken-in-Layout, in-Reference+in_ok-broken-in-Reference}
 
-pub returns-in-Some-clause-broken : goal.returns-in-Some-clause-broken
-returns-in-Some-clause-broken c = λ broken e.
-    let folder = c.args.folder.now in
-    let path = c.in-Some.path.now in
-    let first = outside_first folder c.in_ok-game.game c.in_ok-mixin.mixin (c.in_ok-game.ensures {u = tt}) (c.in_ok-mixin.ensures {u = tt}) path c.in-Some.ensures in
-    told folder (out_of_form path) c.in_ok-out_of_form.field-0 broken first (c.in_ok-out_of_form.ensures {u = tt}) e
+pub overwritings-requires-clause-placed : goal.overwritings-requires-clause-placed
+overwritings-requires-clause-placed c =
+    let front = c.in_ok-configs.field-0 in
+    let read = c.in_ok-configs.ensures.read in
+    rw (c.as_slice.ensures.value, c.as_slice-2.ensures.value)
+    (all-placed c.args.folder.now c.args.side front.configs front.classes.items front.mixins.items read.has_mixins read.marked c.in_ok-configs.ensures.formed)
 
-pub with_mixin-requires-clause-mixin : goal.with_mixin-requires-clause-mixin
-with_mixin-requires-clause-mixin c =
-    has_bytes c.args.folder.now Mixin c.in_ok-mixin.mixin (c.in_ok-mixin.ensures {u = tt}) (mixin_fits c.args.folder.now c.in_ok-game.game c.in_ok-mixin.mixin (c.in_default.ensures {u = tt}))
+pub returns-in_err-edits-clause-broken : goal.returns-in_err-edits-clause-broken
+returns-in_err-edits-clause-broken c =
+    let front = c.in_ok-configs.field-0 in
+    let read = c.in_ok-configs.ensures.read in
+    let lacking = rw (c.as_slice.ensures.value, c.as_slice-2.ensures.value) at c.in_err-edits.ensures.lacking in
+    let p = err_from_is_err_and c.from_residual-in_err-edits.result c.from_residual-in_err-edits.ensures.1 in
+    rw (p.1, p.2)
+    (fault-weaker (IsFirstLacking front.classes.items front.mixins.items) (IsFirstBroken c.args.folder.now c.args.side)
+    (λ broken first. last-broken c.args.folder.now c.args.side broken c.in_ok-configs.ensures.kept (front.configs, front.classes.items, front.mixins.items, read.has_mixins, first)) c.in_err-edits.field-0.0 lacking)
 
-answered : (c : goal.After-with_mixin) → IsAnswer c.args.folder.now c.with_mixin.result
-answered c =
-    let folder = c.args.folder.now in
-    let game = c.in_ok-game.game in
-    let mixin = c.in_ok-mixin.mixin in
-    let none = c.in_default.ensures {u = tt} in
-    let read = c.in_ok-game.ensures {u = tt} in
-    let other = c.in_ok-mixin.ensures {u = tt} in
-    applied_read folder (form_holds folder game mixin read other none) c.in-Class.game mixin c.with_mixin.result
-    (subst (IsReadOf folder (class_path Game) Game) c.in-Class.is read) other (mixin_fits folder game mixin none) c.with_mixin.ensures.applies
+pub sorted_outgoing-requires : goal.sorted_outgoing-requires
+sorted_outgoing-requires c =
+    let front = c.in_ok-configs.field-0 in
+    edits-long front.classes.items front.mixins.items c.in_ok-edits.edits.items (rw (c.as_slice.ensures.value, c.as_slice-2.ensures.value) at c.in_ok-edits.ensures.edits)
 
-pub returns-in-Class-clause-woven : goal.returns-in-Class-clause-woven
-returns-in-Class-clause-woven c = answer_woven c.args.folder.now c.with_mixin.result (answered c)
+pub written_files-requires-clause-ordered : goal.written_files-requires-clause-ordered
+written_files-requires-clause-ordered c =
+    let front = c.in_ok-configs.field-0 in
+    let read = c.in_ok-configs.ensures.read in
+    let sorted = c.in_ok-outgoing.ensures in
+    ascending c.args.folder.now c.args.side front.configs front.classes.items front.mixins.items read.has_mixins read.marked c.in_ok-configs.ensures.formed
+    c.in_ok-edits.edits.items (rw (c.as_slice.ensures.value, c.as_slice-2.ensures.value) at c.in_ok-edits.ensures.edits) sorted.0 c.in_ok-outgoing.outgoing.items sorted.1 sorted.2
 
-pub returns-in-Class-clause-means : goal.returns-in-Class-clause-means
-returns-in-Class-clause-means c = answer_means c.args.folder.now c.with_mixin.result (answered c)
+pub written_files-requires-clause-writable : goal.written_files-requires-clause-writable
+written_files-requires-clause-writable c =
+    let front = c.in_ok-configs.field-0 in
+    let read = c.in_ok-configs.ensures.read in
+    let sorted = c.in_ok-outgoing.ensures in
+    writable c.args.folder.now c.args.side front.configs front.classes.items front.mixins.items read.has_mixins read.marked c.in_ok-configs.ensures.formed
+    c.in_ok-edits.edits.items (rw (c.as_slice.ensures.value, c.as_slice-2.ensures.value) at c.in_ok-edits.ensures.edits) sorted.0 c.in_ok-outgoing.outgoing.items sorted.1 sorted.2
 
-pub returns-in-Class-clause-broken : goal.returns-in-Class-clause-broken
-returns-in-Class-clause-broken c = λ broken e. answer_broken c.args.folder.now c.with_mixin.result broken (answered c) e
+pub returns-clause-kept : goal.returns-clause-kept
+returns-clause-kept c =
+    let front = c.in_ok-configs.field-0 in
+    let read = c.in_ok-configs.ensures.read in
+    none-broken c.args.folder.now c.args.side c.in_ok-configs.ensures.kept
+    (front.configs, front.classes.items, front.mixins.items, read.has_mixins, rw (c.as_slice.ensures.value, c.as_slice-2.ensures.value) at c.in_ok-edits.ensures.found)
 
-pub unreachable-requires : goal.unreachable-requires
-unreachable-requires c =
-    game_fits c.args.folder.now c.in_ok-game.game c.in_ok-mixin.mixin (c.in_default.ensures {u = tt}) c.in-OutOfForm.is
+pub returns-clause-woven : goal.returns-clause-woven
+returns-clause-woven c =
+    let front = c.in_ok-configs.field-0 in
+    let read = c.in_ok-configs.ensures.read in
+    let sorted = c.in_ok-outgoing.ensures in
+    is-woven c.args.folder.now c.args.side front.configs front.classes.items front.mixins.items read.has_mixins read.marked c.in_ok-configs.ensures.formed
+    c.in_ok-edits.edits.items (rw (c.as_slice.ensures.value, c.as_slice-2.ensures.value) at c.in_ok-edits.ensures.edits) sorted.0 c.in_ok-outgoing.outgoing.items sorted.1 sorted.2
+    (record { files = c.in_ok-written_files.field-0; edited = c.edited_count-edited.result; mixins = c.len.result; hooks = 0 }) c.in_ok-written_files.ensures
+    (rw c.as_slice-3.ensures.value at c.edited_count-edited.ensures) (c.len.ensures ∙ sym c.as_slice-2.ensures.len ∙ ap length c.as_slice-2.ensures.value) refl
 
-pub returns-clause-broken : goal.returns-clause-broken
-returns-clause-broken c = λ broken e.
-    let folder = c.args.folder.now in
-    let game = c.in_ok-game.game in
-    let mixin = c.in_ok-mixin.mixin in
-    let none = c.in_default.ensures {u = tt} in
-    let read = c.in_ok-game.ensures {u = tt} in
-    let other = c.in_ok-mixin.ensures {u = tt} in
-    let form = form_holds folder game mixin read other none in
-    let fits = mixin_fits folder game mixin none in
-    elim c.match-game-4.branch [
-      | in-Layout+in_ok-broken-in-Layout w ↦
-          let first = game_layout folder form w.in-Layout.at mixin (subst (IsReadOf folder (class_path Game) Game) w.in-Layout.is read) other fits in
-          told folder (bad_layout Game w.in-Layout.at) c.match-game-4.broken broken first (w.broken-is ∙ w.in_ok-broken-in-Layout.ensures {u = tt}) e
-      | in-Reference+in_ok-broken-in-Reference w ↦
-          let first = game_reference folder form w.in-Reference.at mixin (subst (IsReadOf folder (class_path Game) Game) w.in-Reference.is read) other fits in
-          told folder (bad_reference Game w.in-Reference.at) c.match-game-4.broken broken first (w.broken-is ∙ w.in_ok-broken-in-Reference.ensures {u = tt}) e
-    ]
+pub returns-clause-means : goal.returns-clause-means
+returns-clause-means c =
+    let front = c.in_ok-configs.field-0 in
+    let read = c.in_ok-configs.ensures.read in
+    let sorted = c.in_ok-outgoing.ensures in
+    means-folder c.args.folder.now c.args.side front.configs front.classes.items front.mixins.items read.has_mixins read.marked c.in_ok-configs.ensures.formed
+    c.in_ok-edits.edits.items (rw (c.as_slice.ensures.value, c.as_slice-2.ensures.value) at c.in_ok-edits.ensures.edits) sorted.0 c.in_ok-outgoing.outgoing.items sorted.1 sorted.2
+    (record { files = c.in_ok-written_files.field-0; edited = c.edited_count-edited.result; mixins = c.len.result; hooks = 0 }) c.in_ok-written_files.ensures
