@@ -1,6 +1,5 @@
 pub mod Paths
 pub mod ReadFolder
-pub mod FirstRule
 pub mod OneReading
 pub mod Weaving
 pub mod Outcome

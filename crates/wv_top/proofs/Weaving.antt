@@ -1,27 +1,37 @@
 -- What a weave of the folder that is read answers of the files that it is read of.
-use Rattle.std.proofs.Common.{◌≡◌, ℕ, List, Result, Ok, Err, IfOk, refl}
+use Rattle.std.proofs.Common.{List, Result, Ok, Err, IfOk, IfErr, OnOk, inl, inr}
 use Rattle.wv_base.specs.Folder.{File}
-use Rattle.wv_base.specs.declared.broken.Broken.{Broken}
-use Rattle.wv_weave.specs.FirstForm.{FirstBroken, NoneBroken, Unlimited}
-use Rattle.wv_model.specs.FolderRead.{PassesLimit, IsReading}
-use Rattle.wv_weave.specs.WovenFiles.{IsWoven}
-use Rattle.wv_weave.specs.declared.fault.WeaveFault.{WeaveFault}
-use Rattle.wv_weave.specs.declared.fault.WeaveFault.TheVariants as faults
+use Rattle.wv_base.specs.declared.side.Side.{Side}
+use Rattle.wv_front.specs.FilesRead.{IsReadOf}
+use Rattle.wv_front.specs.Opening.{AreWithin, PassesAt, IsOpened, IsFirstUnopened, IsFirstCut, IsBrokenFault}
+use Rattle.wv_front.specs.declared.fault.WeaveFault.{WeaveFault}
+use Rattle.wv_front.specs.declared.fault.WeaveFault.TheVariants as faults
+use Rattle.wv_front.specs.declared.limit.Cut.{Cut}
+use Rattle.wv_front.proofs.FilesOpened.{whole-opened, whole-first, cut-first}
+use Rattle.wv_weave.specs.Meaning.{MeansFolder}
+use Rattle.wv_weave.specs.Stages.{IsFirstBroken, NoneBroken}
+use Rattle.wv_weave.specs.Woven.{IsWoven}
 use Rattle.wv_weave.specs.declared.weaver.Woven.{Woven}
-use Rattle.wv_top.specs.Rules.{Refuses, Weaves}
-use Rattle.wv_top.proofs.FirstRule.{first_broken_within, none_broken_within}
+use Rattle.wv_top.specs.Rules.{Weaves}
 
--- where the limit isn't passed, it is the weave's answer
-pub weaves_within : (files folder : List File) (result : Result Woven WeaveFault) → IsReading files folder → ((path : List ℕ) → PassesLimit files path → ⊥)
-    → IfOk result (λ woven. NoneBroken Unlimited folder × IsWoven folder woven.files)
-    → ((broken : Broken) → result ≡ Err (faults.Broken broken) → FirstBroken Unlimited folder broken) → Weaves files result
-weaves_within files folder (Ok woven) read within answered broken =
-    ((folder, read, none_broken_within (PassesLimit files) folder within answered.0), (folder, read, answered.1))
-weaves_within files folder (Err (faults.Broken rule)) read within answered broken =
-    (folder, read, first_broken_within (PassesLimit files) folder within rule (broken rule refl))
-weaves_within files folder (Err faults.Memory) read within answered broken = tt
+-- where the reading ended early, it is refused
+pub weaves_cut : (files folder : List File) (side : Side) (cut : Cut) (fault : WeaveFault) → IsReadOf files folder → PassesAt files cut.path cut.limit → IsBrokenFault (IsFirstCut folder cut) fault → Weaves files side (Err fault)
+weaves_cut files folder side cut (faults.Broken broken) read passes first = inl (cut-first files folder cut read passes broken first)
+weaves_cut files folder side cut faults.Memory read passes first = tt
 
--- where it is passed, it is the refusal
-pub weaves_refused : (files folder : List File) (fault : WeaveFault) → IsReading files folder → Refuses files folder fault → Weaves files (Err fault)
-weaves_refused files folder (faults.Broken broken) read refuses = (folder, read, refuses)
-weaves_refused files folder faults.Memory read refuses = tt
+module _ (files folder : List File) (side : Side) (read : IsReadOf files folder) (within : AreWithin files) where
+  -- where it isn't opened, that is refused
+  pub weaves_unopened : (fault : WeaveFault) → IsBrokenFault (IsFirstUnopened folder) fault → Weaves files side (Err fault)
+  weaves_unopened (faults.Broken broken) first = inl (whole-first files folder read within broken first)
+  weaves_unopened faults.Memory first = tt
+
+  -- otherwise it is the weave's answer
+  pub weaves_opened : (result : Result Woven WeaveFault) → IsOpened folder → OnOk result (NoneBroken folder side) → IfOk result (IsWoven folder side) → IfOk result (λ woven. MeansFolder folder side woven.files) → IfErr result (IsBrokenFault (IsFirstBroken folder side)) → Weaves files side result
+  weaves_opened (Ok woven) opened kept meets means broken = record {
+    none = (whole-opened files folder read within opened, (folder, read, kept));
+    meets = (folder, read, meets);
+    means = (folder, read, means);
+  }
+  weaves_opened (Err (faults.Broken rule)) opened kept meets means broken =
+      inr (whole-opened files folder read within opened, (folder, read, broken))
+  weaves_opened (Err faults.Memory) opened kept meets means broken = tt

@@ -3,13 +3,16 @@ use Rattle.std.specs.Prelude.{◌≡◌, ⊤, ◌⊎◌, ℕ, List, Option, Some
 use Rattle.wv_tree.specs.Fault.{Rises}
 use Rattle.wv_tree.specs.Sink.{with_bytes, AddsFirst}
 use Rattle.wv_tree.specs.Tree.{Folders}
+use Rattle.wv_tree.specs.declared.outlet.PutFile.{PutFile}
 use Rattle.wv_base.specs.Folder.{File}
 use Rattle.wv_base.specs.Line.{refusal}
 use Rattle.wv_base.specs.declared.broken.Broken.{Broken}
-use Rattle.wv_weave.specs.FirstForm.{FirstBrokenOf, NoneBrokenOf}
-use Rattle.wv_top.specs.Lines.{usage_line, form_summary}
+use Rattle.wv_base.specs.declared.side.Side.{Side}
+use Rattle.wv_weave.specs.declared.weaver.Woven.{Woven}
+use Rattle.wv_top.specs.Lines.{usage_line, summary_of}
+use Rattle.wv_top.specs.Puts.{IsWovenFor, with_files}
 use Rattle.wv_top.specs.Reading.{WhereTold}
-use Rattle.wv_top.specs.Rules.{SomeBrokenOf}
+use Rattle.wv_top.specs.Rules.{FirstBrokenOf, IsWovenOf, NoneBrokenOf, SomeBrokenOf}
 use Rattle.wv_top.specs.Words.{Command}
 use Rattle.wv_top.specs.declared.status.Status.{Status}
 use Rattle.wv_top.specs.declared.status.Status.TheVariants.{Done, Refused, Usage, ReadFault, WriteFault, Memory}
@@ -57,32 +60,40 @@ KeepsOutlet Done outlet now = ⊤
 KeepsOutlet WriteFault outlet now = ⊤
 KeepsOutlet Memory outlet now = ⊤
 
--- where the tree tells its folders: after Done the files break no rule, and after Refused they break one
+-- where the tree tells its folders: after Done the files break no rule on the command's side, and after Refused they
+-- break one
 abbrev pub FitsRules : Option Command → Option Folders → Status → Type 0
 FitsRules None told status = ⊤
-FitsRules (Some command) told Done = WhereTold told command.folder NoneBrokenOf
-FitsRules (Some command) told Refused = WhereTold told command.folder SomeBrokenOf
+FitsRules (Some command) told Done = WhereTold told command.folder (λ files. NoneBrokenOf files command.side)
+FitsRules (Some command) told Refused = WhereTold told command.folder (λ files. SomeBrokenOf files command.side)
 FitsRules (Some command) told Usage = ⊤
 FitsRules (Some command) told ReadFault = ⊤
 FitsRules (Some command) told WriteFault = ⊤
 FitsRules (Some command) told Memory = ⊤
 
--- the line of a command where nothing fails: that of the first rule that the files break, and the summary where they
--- break none
-pub data IsLineOf (files : List File) : List ℕ → Type 0 where
-  refuses : {broken : Broken} → FirstBrokenOf files broken → IsLineOf files (refusal broken)
-  sums_up : NoneBrokenOf files → IsLineOf files form_summary
+-- the line of a command where nothing fails: that of the first rule that the files break on its side, and the summary
+-- of what they are woven to where they break none
+pub data IsLineOf (files : List File) (side : Side) : List ℕ → Type 0 where
+  refuses : {broken : Broken} → FirstBrokenOf files side broken → IsLineOf files side (refusal broken)
+  sums_up : {woven : Woven} → NoneBrokenOf files side → IsWovenOf files side woven → IsLineOf files side (summary_of woven)
 
 -- the line of the first broken rule was written
 abbrev pub PrintsRefusal : Command → Option Folders → Option (List ℕ) → Option (List ℕ) → Type 0
 PrintsRefusal command told before now =
-    (broken : Broken) × WhereTold told command.folder (λ files. FirstBrokenOf files broken)
+    (broken : Broken) × WhereTold told command.folder (λ files. FirstBrokenOf files command.side broken)
     × (now ≡ with_bytes (refusal broken) before)
+
+-- the summary of what the command's folder is woven to was written
+abbrev pub PrintsSummary : Command → Option Folders → Option (List ℕ) → Option (List ℕ) → Type 0
+PrintsSummary command told before now =
+    (woven : Woven) × WhereTold told command.folder (λ files. IsWovenOf files command.side woven)
+    × (now ≡ with_bytes (summary_of woven) before)
 
 -- some first bytes were written of the line that the command writes where nothing fails
 abbrev pub PrintsFront : Command → Option Folders → Option (List ℕ) → Option (List ℕ) → Type 0
 PrintsFront command told before now =
-    (line : List ℕ) × WhereTold told command.folder (λ files. IsLineOf files line) × AddsFirst line before now
+    (line : List ℕ) × WhereTold told command.folder (λ files. IsLineOf files command.side line)
+    × AddsFirst line before now
 
 -- what is told of the sink's content: the line of the status, first bytes of a line where writing fails, and nothing
 -- where reading fails or memory runs out
@@ -93,9 +104,21 @@ Prints None told Done before now = now ≡ before
 Prints None told Refused before now = now ≡ before
 Prints None told ReadFault before now = now ≡ before
 Prints None told Memory before now = now ≡ before
-Prints (Some command) told Done before now = now ≡ with_bytes form_summary before
+Prints (Some command) told Done before now = PrintsSummary command told before now
 Prints (Some command) told Refused before now = PrintsRefusal command told before now
 Prints (Some command) told WriteFault before now = PrintsFront command told before now
 Prints (Some command) told Usage before now = now ≡ before
 Prints (Some command) told ReadFault before now = now ≡ before
 Prints (Some command) told Memory before now = now ≡ before
+
+-- after Done the files of one weave of the command's folder were put, and of the same weave the summary was written
+abbrev pub IsDone : Status → Option Command → Option Folders → (put put_now : Option (List PutFile)) → (printed printed_now : Option (List ℕ)) → Type 0
+IsDone Done None told put put_now printed printed_now = ⊤
+IsDone Done (Some command) told put put_now printed printed_now =
+    (woven : Woven) × IsWovenFor command told woven × (put_now ≡ with_files command.out woven.files put)
+    × (printed_now ≡ with_bytes (summary_of woven) printed)
+IsDone Refused asked told put put_now printed printed_now = ⊤
+IsDone Usage asked told put put_now printed printed_now = ⊤
+IsDone ReadFault asked told put put_now printed printed_now = ⊤
+IsDone WriteFault asked told put put_now printed printed_now = ⊤
+IsDone Memory asked told put put_now printed printed_now = ⊤

@@ -1,5 +1,6 @@
 -- What the program prints (our own).
-use Rattle.std.specs.Prelude.{ℕ, List, ◌++◌, codes, decimal}
+use Rattle.std.specs.Prelude.{ℕ, List, ◌++◌, length, codes, decimal}
+use Rattle.wv_weave.specs.declared.weaver.Woven.{Woven}
 
 -- how the program is called
 unfoldable pub usage_line : List ℕ
@@ -11,6 +12,6 @@ summary_line written edited mixins hooks =
     codes "woven " ++ decimal written ++ codes " classes, " ++ decimal edited ++ codes " edited, " ++ decimal mixins
     ++ codes " mixins, " ++ decimal hooks ++ codes " hooks\n"
 
--- the summary of the form that is built: one class is written, which one mixin edits without a hook
-abbrev pub form_summary : List ℕ
-form_summary = summary_line 1 1 1 0
+-- the summary of what a folder is woven to
+abbrev pub summary_of : Woven → List ℕ
+summary_of woven = summary_line (length woven.files) woven.edited woven.mixins woven.hooks

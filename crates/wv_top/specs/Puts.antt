@@ -4,6 +4,7 @@ use Rattle.std.specs.Option.{option_map}
 use Rattle.wv_base.specs.Folder.{File, IsInOrder}
 use Rattle.wv_tree.specs.Tree.{Folders}
 use Rattle.wv_tree.specs.declared.outlet.PutFile.{PutFile}
+use Rattle.wv_weave.specs.declared.weaver.Woven.{Woven}
 use Rattle.wv_top.specs.Reading.{WhereTold}
 use Rattle.wv_top.specs.Rules.{IsWovenOf, MeansOf}
 use Rattle.wv_top.specs.Words.{Command}
@@ -18,24 +19,24 @@ put_file name file = record { folder = name; path = file.0; bytes = file.1 }
 abbrev pub with_files : List ℕ → List File → Option (List PutFile) → Option (List PutFile)
 with_files name files told = option_map (λ before. before ++ map (put_file name) files) told
 
--- the written files for the command's folder, in the order of their paths, which do what the folder's game class does
--- under its mixin
-pub record AreWritten (command : Command) (told : Option Folders) (written : List File) : Type 0 where
-  pub order : IsInOrder written
-  pub meets : WhereTold told command.folder (λ files. IsWovenOf files written)
-  pub means : WhereTold told command.folder (λ files. MeansOf files written)
+-- what the command's folder is woven to on its side: its files, in the order of their paths, do what the classes of the
+-- folder do under its mixins
+pub record IsWovenFor (command : Command) (told : Option Folders) (woven : Woven) : Type 0 where
+  pub order : IsInOrder woven.files
+  pub meets : WhereTold told command.folder (λ files. IsWovenOf files command.side woven)
+  pub means : WhereTold told command.folder (λ files. MeansOf files command.side woven.files)
 
 -- the written files were put under the command's name, and no others
 abbrev pub PutsAll : Command → Option Folders → Option (List PutFile) → Option (List PutFile) → Type 0
 PutsAll command told before now =
-    (written : List File) × AreWritten command told written × (now ≡ with_files command.out written before)
+    (woven : Woven) × IsWovenFor command told woven × (now ≡ with_files command.out woven.files before)
 
 -- no file was put, or some first ones of the written files were under the command's name, and no others
 abbrev pub PutsFront : Command → Option Folders → Option (List PutFile) → Option (List PutFile) → Type 0
 PutsFront command told before now =
     (now ≡ before)
-    ⊎ ((written : List File) × (count : ℕ) × AreWritten command told written
-    × (now ≡ with_files command.out (take count written) before))
+    ⊎ ((woven : Woven) × (count : ℕ) × IsWovenFor command told woven
+    × (now ≡ with_files command.out (take count woven.files) before))
 
 -- after each status: no file was put, or all written files were, or some first ones of them
 abbrev pub Puts : Option Command → Option Folders → Status → Option (List PutFile) → Option (List PutFile) → Type 0

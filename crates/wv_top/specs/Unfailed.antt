@@ -3,9 +3,9 @@ use Rattle.std.specs.Prelude.{ℕ, List, Some}
 use Rattle.wv_base.specs.Folder.{File}
 use Rattle.wv_tree.specs.Fault.{Rises}
 use Rattle.wv_tree.specs.Tree.{Folders}
-use Rattle.wv_weave.specs.FirstForm.{NoneBrokenOf}
+use Rattle.wv_base.specs.declared.side.Side.{Side}
 use Rattle.wv_top.specs.Words.{Command}
-use Rattle.wv_top.specs.Rules.{SomeBrokenOf}
+use Rattle.wv_top.specs.Rules.{NoneBrokenOf, SomeBrokenOf}
 use Rattle.wv_top.specs.Ends.{FitsWords, FitsRules, TellsReading, TellsWriting}
 use Rattle.wv_top.specs.declared.status.Status.{Status}
 use Rattle.wv_top.specs.declared.status.Status.TheVariants.{Done, Refused, Memory}
@@ -28,8 +28,8 @@ pub record EndsUnfailed (command : Command) (folders : Folders) (status : Status
   pub outlet_stays : Rises before.outlet now.outlet → ⊥
   pub sink_stays : Rises before.sink now.sink → ⊥
 
--- refused where the files break a rule, done where they break none, or memory ran out
-pub data Decides (files : List File) : Status → Type 0 where
-  refused : SomeBrokenOf files → Decides files Refused
-  done : NoneBrokenOf files → Decides files Done
-  starved : Decides files Memory
+-- refused where the files break a rule on a side, done where they break none, or memory ran out
+pub data Decides (files : List File) (side : Side) : Status → Type 0 where
+  refused : SomeBrokenOf files side → Decides files side Refused
+  done : NoneBrokenOf files side → Decides files side Done
+  starved : Decides files side Memory

@@ -1,6 +1,6 @@
 //! The line that sums up a weave.
-ghost use Rattle.std.specs.Prelude.{◌≡◌, ◌<◌, ◌++◌, length, decimal, OnOk, IfOk, string_bytes, string_len};
-ghost use Rattle.wv_top.specs.Lines.{summary_line};
+ghost use Rattle.std.specs.Prelude.{◌≡◌, ◌<◌, ◌++◌, decimal, OnOk, IfOk, string_bytes, string_len};
+ghost use Rattle.wv_top.specs.Lines.{summary_of};
 
 use itoa::Buffer;
 use std::alloc::{AllocError, Global};
@@ -19,15 +19,14 @@ fn push_count(line: &mut String, text: &str, count: usize) -> Result<(), AllocEr
 /// have.
 #[tactic(auto, unfolding(crate::specs::Lines::summary_line))]
 pub(crate) fn summary_line(alloc: Global, woven: &Woven) -> Result<String, AllocError>
-    ensures line { IfOk result (λ line. string_bytes line
-        ≡ summary_line (length woven.now.files) woven.now.edited woven.now.mixins woven.now.hooks) }
+    ensures line { IfOk result (λ line. string_bytes line ≡ summary_of woven.now) }
     ensures some { IfOk result (λ line. 0 < string_len line) }
 {
     let mut line = String::new(alloc);
     push_count(&mut line, "woven ", woven.files.len())?;
-    push_count(&mut line, " classes, ", woven.edited as usize)?;
-    push_count(&mut line, " edited, ", woven.mixins as usize)?;
-    push_count(&mut line, " mixins, ", woven.hooks as usize)?;
+    push_count(&mut line, " classes, ", woven.edited)?;
+    push_count(&mut line, " edited, ", woven.mixins)?;
+    push_count(&mut line, " mixins, ", woven.hooks)?;
     line.push_str(" hooks\n")?;
     Ok(line)
 }

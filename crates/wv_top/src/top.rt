@@ -5,7 +5,7 @@ ghost use Rattle.wv_tree.specs.Fault.{HasSinkCause};
 ghost use Rattle.wv_tree.specs.Sink.{with_bytes, AddsFirst};
 ghost use Rattle.wv_top.specs.Words.{command_of, texts};
 ghost use Rattle.wv_top.specs.Puts.{Puts};
-ghost use Rattle.wv_top.specs.Ends.{FitsWords, FitsRules, TellsReading, TellsWriting, KeepsOutlet, Prints};
+ghost use Rattle.wv_top.specs.Ends.{FitsWords, FitsRules, TellsReading, TellsWriting, KeepsOutlet, Prints, IsDone};
 
 use crate::put::put_files;
 use crate::reading::read_folder;
@@ -15,8 +15,8 @@ use crate::summary::summary_line;
 use crate::words::command_of;
 use std::alloc::Global;
 use wv_base::{Broken, LINE, write_broken};
+use wv_front::WeaveFault;
 use wv_tree::{IoFault, Outlet, Sink, SinkFault, Tree};
-use wv_weave::WeaveFault;
 
 const USAGE: &[u8] = b"usage: loader weave|run|list FOLDER [options] | gen NUMBER SIZE --out DIR\n";
 
@@ -52,6 +52,8 @@ pub fn loader<T: Tree, O: Outlet, S: Sink>(
         (O.told outlet.old) (O.told outlet.new) }
     ensures printed { Prints (command_of (texts words.now)) (T.told tree.old) result
         (S.told sink.old) (S.told sink.new) }
+    ensures done { IsDone result (command_of (texts words.now)) (T.told tree.old)
+        (O.told outlet.old) (O.told outlet.new) (S.told sink.old) (S.told sink.new) }
 {
     let Some(command) = command_of(words) else {
         return match sink.write(USAGE) {

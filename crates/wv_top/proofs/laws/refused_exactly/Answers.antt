@@ -7,7 +7,7 @@ use Rattle.wv_top.specs.declared.status.Status.TheVariants.{Done, Refused, Usage
 use Rattle.wv_top.proofs.OneReading.{one_broken_of, none_or_first}
 use Rattle.wv_top.proofs.laws.refused_exactly.Goals as goal
 
-decided : (command : Command) (folders : Folders) (status : Status) → EndsUnfailed command folders status → Decides (folders command.folder) status
+decided : (command : Command) (folders : Folders) (status : Status) → EndsUnfailed command folders status → Decides (folders command.folder) command.side status
 decided command folders Done ends = done ends.rules
 decided command folders Refused ends = refused ends.rules
 decided command folders Usage ends = absurd ends.words
@@ -20,7 +20,7 @@ pub returns-clause-decided : goal.returns-clause-decided
 returns-clause-decided c = λ command folders status ends. decided command folders status ends
 
 pub returns-clause-apart : goal.returns-clause-apart
-returns-clause-apart c = λ files none some. none_or_first files some.0 none some.1
+returns-clause-apart c = λ files side none some. none_or_first files side some.0 none some.1
 
 pub returns-clause-one_first : goal.returns-clause-one_first
-returns-clause-one_first c = λ files first second a b. one_broken_of files first second a b
+returns-clause-one_first c = λ files side first second a b. one_broken_of files side first second a b

@@ -1,9 +1,10 @@
 use Rattle.std.proofs.Common.{◌≡◌, ◌<◌, List, ℕ, String, Global, length, get_or, map, string_bytes, refl, sym, ap, ◌∙◌, arith}
 use Rattle.std.proofs.lemmas.List.{get_or-map, length-map}
 use Rattle.wv_base.specs.Folder.{File}
+use Rattle.wv_front.specs.Opening.{most_files}
 use Rattle.wv_model.specs.FolderRead.{most_read}
 use Rattle.wv_top.proofs.Paths.{next-after_all, paths-more}
-use Rattle.wv_top.proofs.ReadFolder.{count_of_paths, next_told, none_read, one_more_read, read_all}
+use Rattle.wv_top.proofs.ReadFolder.{next_told, none_read, one_more_read, read_all}
 use Rattle.wv_top.proofs.reading.read_files.Goals as goal
 
 -- the bytes of a word of a list stand at its place among those of all
@@ -19,9 +20,9 @@ push-requires g c =
     (word_at c.args.paths.now c.loop-path.path-index c.path-item.result c.in_ok-from_str.field-0 c.loop-path-test.true c.path-item.is (c.in_ok-from_str.ensures ∙ c.as_str-in-loop-path.ensures.value))
 
 pub loop-path-init : goal.loop-path-init
-unfolding most_read
+unfolding most_files most_read
 loop-path-init g c =
-    (refl, ap (map (λ (file : File). file.0)) c.new-folder.ensures, refl, refl, none_read _ _ _ _ _ refl refl)
+    (refl, ap (map (λ (file : File). file.0)) c.new-folder.ensures, refl, refl, none_read _ _ _ _ _ refl refl refl c.new-folder.ensures)
 
 pub loop-path-preserved : goal.loop-path-preserved
 loop-path-preserved g c =
@@ -33,7 +34,7 @@ loop-path-preserved g c =
     next_told (g.T.Tree.told c.args.tree.now) (g.T.Tree.told c.loop-path.tree) (g.T.Tree.name c.args.tree.now) (g.T.Tree.name c.loop-path.tree) c.in_ok-from_str.field-0 c.as_str.result.now c.from_vec.result c.in_ok-bytes.bytes.items c.loop-path.allowance c.read.new.self
     c.loop-path.invariant.2 c.loop-path.invariant.3 (c.as_str.ensures.value ∙ sym (c.in_ok-from_str.ensures ∙ c.as_str-in-loop-path.ensures.value)) (sym c.from_vec.ensures) c.in_ok-bytes.ensures.next in
     let kept =
-    one_more_read (g.T.Tree.told c.args.tree.now) (g.T.Tree.name c.args.tree.now) paths c.loop-path.path-index c.loop-path.folder c.loop-path.allowance c.read.new.self c.in_ok-from_str.field-0 c.from_vec.result c.requires short (count_of_paths paths c.loop-path.folder c.loop-path.path-index c.loop-path.invariant.1 (omega arith)) here c.loop-path.invariant.4 next in (
+    one_more_read (g.T.Tree.told c.args.tree.now) (g.T.Tree.name c.args.tree.now) paths c.loop-path.path-index c.loop-path.folder c.loop-path.allowance c.read.new.self c.in_ok-from_str.field-0 c.from_vec.result c.requires short here c.loop-path.invariant.4 next in (
       c.in_ok-bytes.ensures.cause ∙ c.loop-path.invariant.0,
       rw c.in_ok-push.ensures.ok more,
       c.in_ok-bytes.ensures.told ∙ c.loop-path.invariant.2,
@@ -45,4 +46,4 @@ pub returns-clause-read : goal.returns-clause-read
 returns-clause-read g c =
     let paths = map string_bytes c.args.paths.now in
     let long : length paths ≡ c.loop-path.path-index = omega (arith, length-map c.args.paths.now string_bytes) in
-    read_all (g.T.Tree.told c.args.tree.now) (g.T.Tree.name c.args.tree.now) paths c.loop-path.path-index (record { folder = c.loop-path.folder; passed = c.loop-path.allowance.passed }) c.loop-path.allowance long (count_of_paths paths c.loop-path.folder c.loop-path.path-index c.loop-path.invariant.1 (omega arith)) refl c.loop-path.invariant.4
+    read_all (g.T.Tree.told c.args.tree.now) (g.T.Tree.name c.args.tree.now) paths c.loop-path.path-index (record { folder = c.loop-path.folder; cut = c.loop-path.allowance.cut }) c.loop-path.allowance long refl c.loop-path.invariant.4
