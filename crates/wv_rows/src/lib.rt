@@ -5,10 +5,22 @@
 #[cfg(test)]
 mod assembler;
 #[cfg(test)]
-mod first_form;
+mod calls;
 #[cfg(test)]
-mod form;
+mod cases;
 #[cfg(test)]
-mod tables;
+mod class_files;
 #[cfg(test)]
-mod wider_form;
+mod disassembler;
+#[cfg(test)]
+mod files;
+#[cfg(test)]
+mod limits;
+#[cfg(test)]
+mod outside;
+#[cfg(test)]
+mod pairs;
+#[cfg(test)]
+mod rules;
+#[cfg(test)]
+mod woven;
