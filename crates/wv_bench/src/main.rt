@@ -12,7 +12,7 @@ use anyhow::Result;
 use std::env;
 
 /// How often the work is done, of which the fastest counts.
-const ROUNDS: usize = 1;
+const ROUNDS: usize = 5;
 
 fn main(rt: HostRuntime) -> Result<()> {
     let words = env::args(&rt)?.collect::<Vec<String>>(rt.alloc())?;

@@ -187,7 +187,7 @@ fn weave_once<R: Clock + AllocGlobal>(rt: &R, folder: &Folder) -> Result<(Woven,
 
 /// Prints how long 125 to 1,000 mods take.
 pub(crate) fn time<R: Clock + AllocGlobal + Print>(rt: &R, rounds: usize) -> Result<()> {
-    for count in [4usize, 9] {
+    for count in [125usize, 250, 500, 1000] {
         let folder = folder(rt.alloc(), count)?;
         let mut shortest = Duration::from_secs(3600);
         let (mut classes, mut edited) = (0, 0);

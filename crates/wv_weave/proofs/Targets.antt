@@ -56,6 +56,14 @@ module _ (classes : List LoadedClass) (formed : AreFormed classes) where
       let same : get_or classes place target ≡ target = one-loaded_name classes formed.distinct (get_or classes place target) target (place, inside, get_or_default classes place (get_or classes place target) target inside) there (sym name) in
       (inside, same)
 
+  -- a place that is found for the name of the target is one of a class
+  pub target-inside : (mixin : AppliedMixin) (class : LoadedClass) (place : ℕ) → IsMarked classes mixin → StandsAt classes mixin.class_place class
+      → ((name : List ℕ) → HasTarget class.class name → Some place ≡ position (bytes_eq name) (map loaded_name classes)) → place < length classes
+  target-inside mixin class place marked stands told = by (thin-target mixin class marked stands)
+    where
+      by : HasThinTarget classes class → place < length classes
+      by (target, there, game, names) = (target-at target place there (sym (told target.name names))).0
+
   -- all that joins the mixin is its class and that target
   pub joins-one : (mixin : AppliedMixin) (class target other second : LoadedClass) → Joins classes mixin class target → Joins classes mixin other second → (other ≡ class) × (second ≡ target)
   joins-one mixin class target other second joins joins' =

@@ -1,12 +1,23 @@
-use Rattle.std.proofs.Common.{subst, sym, map}
+use Rattle.std.proofs.Common.{subst, sym, map, rules}
 use Rattle.wv_classes.specs.declared.loaded_class.LoadedClass.{LoadedClass}
 use Rattle.wv_front.specs.Places.{loaded_name}
 use Rattle.wv_merge.specs.Merging.{IsMissing, NoneMissing}
 use Rattle.wv_merge.specs.Overwriting.{IsOverwriting}
 use Rattle.wv_merge.specs.ThinClass.{IsReadThin}
 use Rattle.wv_model.specs.PlainCode.{Game}
-use Rattle.wv_weave.proofs.Targets.{class-stands, finds-all, found-target, marked-thin, target-found}
+use Rattle.wv_weave.proofs.Targets.{class-stands, finds-all, found-target, marked-thin, target-found, target-inside}
 use Rattle.wv_weave.proofs.merging.overwriting.Goals as goal
+
+pub bounds-classes-place : goal.bounds-classes-place
+bounds-classes-place c =
+    let classes = c.args.classes.now in
+    let class = c.index-classes-mixin.result in
+    let stands = class-stands classes c.requires.formed c.args.mixin.now class c.requires.placed c.index-classes-mixin.is in
+    target-inside classes c.requires.formed c.args.mixin.now class c.in-Some.place c.requires.marked stands
+    (λ name names. (rw c.in-Some.is at c.in_ok-place.ensures) (map loaded_name classes) name c.requires.places names)
+
+pub offset_bounds-classes-place : goal.offset_bounds-classes-place
+offset_bounds-classes-place c = search (rules, bounds-classes-place c)
 
 pub find-requires-clause-target : goal.find-requires-clause-target
 find-requires-clause-target c =
