@@ -24,8 +24,8 @@ returns-in_err-place-clause-lacking c =
     let mixin = c.mixin-item.result in
     let p = err_from_is_err_and c.from_residual-in_err-place.result c.from_residual-in_err-place.ensures.1 in
     rw (p.1, p.2) (fault-weaker (λ broken. LacksOne classes broken mixin) (IsFirstLacking classes mixins)
-        (λ broken lacks. (mixin, first-at (FindsAll classes) (LacksOne classes broken) mixins c.loop-mixin.mixin-index mixin c.loop-mixin-test.true c.mixin-item.is c.loop-mixin.invariant.1 lacks))
-        c.in_err-place.field-0.0 c.in_err-place.ensures.lacking)
+    (λ broken lacks. (mixin, first-at (FindsAll classes) (LacksOne classes broken) mixins c.loop-mixin.mixin-index mixin c.loop-mixin-test.true c.mixin-item.is c.loop-mixin.invariant.1 lacks))
+    c.in_err-place.field-0.0 c.in_err-place.ensures.lacking)
 
 pub loop-mixin-preserved : goal.loop-mixin-preserved
 loop-mixin-preserved c =
