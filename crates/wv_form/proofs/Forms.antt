@@ -10,13 +10,13 @@ use Rattle.wv_classes.specs.Roots.{has}
 use Rattle.wv_model.specs.PlainCode.{Game, Mixin}
 use Rattle.wv_form.specs.declared.kinds.KnownFile.{KnownFile}
 use Rattle.wv_form.specs.declared.tables.Tables.{Tables}
-use Rattle.wv_form.specs.FileForm.{IsThinFile, HasTarget, TargetsFile, ShareTarget, NamesFile}
+use Rattle.wv_form.specs.FileForm.{IsThinFile, IsCandidate, HasTarget, TargetsFile, ShareTarget, NamesFile}
 use Rattle.wv_form.specs.Form.{HasForm, LacksForm, twice, no_target, shared, names_mixin, IsOfForm, IsOutOfForm}
 use Rattle.wv_form.specs.Kinds.{IsThinAs, IsTargetOf, AreKnown}
 use Rattle.wv_form.specs.NamedClasses.{named_classes}
 use Rattle.wv_form.specs.Placing.{is_elsewhere, place_of}
 use Rattle.wv_form.specs.Tables.{AreTables, is_right, StandsAlone, Clashes, elsewhere, named}
-use Rattle.wv_form.proofs.KnownFiles.{same-class, one-target_name, twice-known, known-twice, thin-known, known-thin, mixin-known, known-mixin, shared-known, known-shared}
+use Rattle.wv_form.proofs.KnownFiles.{same-class, one-target_name, twice-known, known-twice, candidate-known, known-candidate, mixin-known, known-mixin, shared-known, known-shared}
 use Rattle.wv_form.proofs.OneTarget.{thin-apart}
 use Rattle.wv_form.proofs.Others.{left, right, some-other, none-other}
 use Rattle.wv_form.proofs.PlaceTables.{same-text, texts-apart}
@@ -78,16 +78,16 @@ module _ (folder : List File) (classes : List FolderClass) (files : List KnownFi
   -- ---- Thin mixins
 
   module _ (thin : IsThinAs folder Mixin file class) where
-    -- the target is a thin class
-    has-target : (name : List ℕ) → HasTarget class name → has tables.thin name ≡ true → (other : FolderClass) × Contains classes other × IsThinFile folder Game other × TargetsFile file other
+    -- a class file of the folder may be that of the target
+    has-target : (name : List ℕ) → HasTarget class name → has tables.candidates name ≡ true → (other : FolderClass) × Contains classes other × IsCandidate folder other × TargetsFile file other
     has-target name on there =
-        let (other, found, game, same) = thin-known folder classes files known name ((are.thin name).0 there) in
-        (other, found, game, (class, thin.0, subst (HasTarget class) (sym same) on))
+        let (other, found, candidate, same) = candidate-known folder classes files known name ((are.candidates name).0 there) in
+        (other, found, candidate, (class, thin.0, subst (HasTarget class) (sym same) on))
 
-    target-there : (name : List ℕ) → HasTarget class name → (other : FolderClass) → Contains classes other → IsThinFile folder Game other → TargetsFile file other → has tables.thin name ≡ true
-    target-there name on other found game targets =
-        ap (has tables.thin) (one-target_name file class name other.name thin.0 on targets)
-        ∙ (are.thin other.name).1 (known-thin folder classes files known other found game)
+    target-there : (name : List ℕ) → HasTarget class name → (other : FolderClass) → Contains classes other → IsCandidate folder other → TargetsFile file other → has tables.candidates name ≡ true
+    target-there name on other found candidate targets =
+        ap (has tables.candidates) (one-target_name file class name other.name thin.0 on targets)
+        ∙ (are.candidates other.name).1 (known-candidate folder classes files known other found candidate)
 
     alone-there : (name : List ℕ) → HasTarget class name → is_elsewhere (place_of tables.targets name) file.path ≡ false → (other : FolderClass) → Contains classes other → IsThinFile folder Mixin other → ShareTarget file other → other.path ≡ file.path
     alone-there name on alone other found mixin (mine, read, (theirs, read', (shared_name, on', on''))) = not-other other.path file.path (λ differs.
@@ -100,17 +100,17 @@ module _ (folder : List File) (classes : List FolderClass) (files : List KnownFi
     mixin-formed (Some name) on is stands = λ class' read'. record {
       thin = inr thin.1;
       once = one-path stands;
-      targets = λ mixin. has-target name on (left (has tables.thin name) (not (is_elsewhere (place_of tables.targets name) file.path)) is);
-      alone = λ mixin. alone-there name on (not-true (is_elsewhere (place_of tables.targets name) file.path) (right (has tables.thin name) (not (is_elsewhere (place_of tables.targets name) file.path)) is));
+      targets = λ mixin. has-target name on (left (has tables.candidates name) (not (is_elsewhere (place_of tables.targets name) file.path)) is);
+      alone = λ mixin. alone-there name on (not-true (is_elsewhere (place_of tables.targets name) file.path) (right (has tables.candidates name) (not (is_elsewhere (place_of tables.targets name) file.path)) is));
       names = no-mixin stands thin.0;
     }
 
     pub mixin-lacks : (target : Option (List ℕ)) → IsTargetOf class target → is_right tables target file.path ≡ false → IsOutOfForm folder classes file
-    mixin-lacks None none wrong = ((class, thin.0), no_target thin.1 (λ other found game (class', read', on'). none other.name (subst (λ (c : ClassFile). HasTarget c other.name) (same-class file class' class read' thin.0) on')))
-    mixin-lacks (Some name) on wrong = elim (cases_Bool (has tables.thin name)) [
-      | inr absent ↦ ((class, thin.0), no_target thin.1 (λ other found game targets. true≢false (sym (target-there name on other found game targets) ∙ absent)))
+    mixin-lacks None none wrong = ((class, thin.0), no_target thin.1 (λ other found candidate (class', read', on'). none other.name (subst (λ (c : ClassFile). HasTarget c other.name) (same-class file class' class read' thin.0) on')))
+    mixin-lacks (Some name) on wrong = elim (cases_Bool (has tables.candidates name)) [
+      | inr absent ↦ ((class, thin.0), no_target thin.1 (λ other found candidate targets. true≢false (sym (target-there name on other found candidate targets) ∙ absent)))
       | inl there ↦
-          let apart : is_elsewhere (place_of tables.targets name) file.path ≡ true = wrong-of (has tables.thin name) (is_elsewhere (place_of tables.targets name) file.path) there wrong in
+          let apart : is_elsewhere (place_of tables.targets name) file.path ≡ true = wrong-of (has tables.candidates name) (is_elsewhere (place_of tables.targets name) file.path) there wrong in
           let (other, found, mixin, (theirs, read', on'), differs) = shared-known folder classes files known name file.path ((are.targets name file.path).0 apart) in
           ((class, thin.0), shared thin.1 other found mixin (class, thin.0, (theirs, read', (name, on, on'))) differs)
     ]

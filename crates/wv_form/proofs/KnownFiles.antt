@@ -1,5 +1,5 @@
 -- What the kinds of class files say of the class files of a folder.
-use Rattle.std.proofs.Common.{◌≡◌, ℕ, zero, suc, Option, Some, None, List, [], ◌∷◌, map, flat_map, Contains, refl, ap, sym, ◌∙◌, subst, arith}
+use Rattle.std.proofs.Common.{◌≡◌, inl, inr, ℕ, zero, suc, Option, Some, None, List, [], ◌∷◌, map, flat_map, Contains, refl, ap, sym, ◌∙◌, subst, arith}
 use Rattle.std.specs.Borrow.{Bor}
 use Rattle.std.proofs.lemmas.List.Elements.{All-contains, All-from_recursion}
 use Rattle.wv_base.specs.declared.class_file.ClassFile.{ClassFile}
@@ -11,10 +11,10 @@ use Rattle.wv_resolve.proofs.OneMods.{contains-head}
 use Rattle.wv_form.specs.declared.kinds.FileKind.{FileKind}
 use Rattle.wv_form.specs.declared.kinds.FileKind.TheVariants as kinds
 use Rattle.wv_form.specs.declared.kinds.KnownFile.{KnownFile}
-use Rattle.wv_form.specs.FileForm.{IsThinFile, HasTarget}
+use Rattle.wv_form.specs.FileForm.{IsThinFile, IsCandidate, HasTarget}
 use Rattle.wv_form.specs.Kinds.{IsKindOf, IsKnown, AreKnown}
 use Rattle.wv_form.specs.Placing.{StandsElsewhere}
-use Rattle.wv_form.specs.Tables.{name_place, target_place_of, target_places, thin_name_of, thin_names, mixin_name_of, mixin_names}
+use Rattle.wv_form.specs.Tables.{name_place, target_place_of, target_places, candidate_name_of, candidate_names, mixin_name_of, mixin_names}
 use Rattle.wv_form.proofs.Mapped.{mapped-contains, contains-mapped, flat-contains, contains-flat}
 use Rattle.wv_form.proofs.OneTarget.{one-name, thin-apart}
 
@@ -40,17 +40,19 @@ one-target_name file class name other read on (class', read', on') =
     one-name class name other on (subst (λ (c : ClassFile). HasTarget c other) (same-class file class' class read' read) on')
 
 module _ (folder : List File) (file : FolderClass) where
-  kind-thin : (kind : FileKind) → IsKindOf folder file kind → IsThinFile folder Game file → Contains (thin_name_of kind file.name) file.name
-  kind-thin kinds.NoClass h thin = absurd (h thin.class thin.read)
-  kind-thin (kinds.Thin class) h thin = contains-head file.name []
-  kind-thin (kinds.Mixin class target) h thin = absurd (thin-apart folder file thin h.0.1)
-  kind-thin kinds.Other h thin = absurd (h.1 thin)
+  kind-candidate : (kind : FileKind) → IsKindOf folder file kind → IsCandidate folder file → Contains (candidate_name_of kind file.name) file.name
+  kind-candidate kinds.NoClass h candidate = contains-head file.name []
+  kind-candidate (kinds.Thin class) h candidate = contains-head file.name []
+  kind-candidate (kinds.Mixin class target) h (inl thin) = absurd (thin-apart folder file thin h.0.1)
+  kind-candidate (kinds.Mixin class target) h (inr none) = absurd (none class.now h.0.0)
+  kind-candidate kinds.Other h (inl thin) = absurd (h.1 thin)
+  kind-candidate kinds.Other h (inr none) = absurd (none h.0.0 h.0.1)
 
-  thin-kind : (kind : FileKind) (name : List ℕ) → IsKindOf folder file kind → Contains (thin_name_of kind file.name) name → IsThinFile folder Game file × (file.name ≡ name)
-  thin-kind kinds.NoClass name h found = absurd (none-there name found)
-  thin-kind (kinds.Thin class) name h found = (h.1, only file.name name found)
-  thin-kind (kinds.Mixin class target) name h found = absurd (none-there name found)
-  thin-kind kinds.Other name h found = absurd (none-there name found)
+  candidate-kind : (kind : FileKind) (name : List ℕ) → IsKindOf folder file kind → Contains (candidate_name_of kind file.name) name → IsCandidate folder file × (file.name ≡ name)
+  candidate-kind kinds.NoClass name h found = (inr h, only file.name name found)
+  candidate-kind (kinds.Thin class) name h found = (inl h.1, only file.name name found)
+  candidate-kind (kinds.Mixin class target) name h found = absurd (none-there name found)
+  candidate-kind kinds.Other name h found = absurd (none-there name found)
 
   kind-mixin : (kind : FileKind) → IsKindOf folder file kind → IsThinFile folder Mixin file → Contains (mixin_name_of kind file.name) file.name
   kind-mixin kinds.NoClass h thin = absurd (h thin.class thin.read)
@@ -115,17 +117,17 @@ module _ (folder : List File) (classes : List FolderClass) (files : List KnownFi
         differs,
       )
 
-  pub thin-known : (name : List ℕ) → Contains (flat_map thin_names files) name → (file : FolderClass) × Contains classes file × IsThinFile folder Game file × (file.name ≡ name)
-  thin-known name found =
-      let m = contains-flat thin_names files name found in
-      let is = thin-kind folder m.0.file.now m.0.kind name (kind-known m.0 m.1) m.2 in
+  pub candidate-known : (name : List ℕ) → Contains (flat_map candidate_names files) name → (file : FolderClass) × Contains classes file × IsCandidate folder file × (file.name ≡ name)
+  candidate-known name found =
+      let m = contains-flat candidate_names files name found in
+      let is = candidate-kind folder m.0.file.now m.0.kind name (kind-known m.0 m.1) m.2 in
       (m.0.file.now, file-known m.0 m.1, is.0, is.1)
 
-  pub known-thin : (file : FolderClass) → Contains classes file → IsThinFile folder Game file → Contains (flat_map thin_names files) file.name
-  known-thin file found thin =
+  pub known-candidate : (file : FolderClass) → Contains classes file → IsCandidate folder file → Contains (flat_map candidate_names files) file.name
+  known-candidate file found candidate =
       let m = known-file file found in
-      subst (λ (f : FolderClass). Contains (flat_map thin_names files) f.name) m.2
-      (flat-contains thin_names files m.0 m.0.file.now.name m.1 (kind-thin folder m.0.file.now m.0.kind (kind-known m.0 m.1) (subst (IsThinFile folder Game) (sym m.2) thin)))
+      subst (λ (f : FolderClass). Contains (flat_map candidate_names files) f.name) m.2
+      (flat-contains candidate_names files m.0 m.0.file.now.name m.1 (kind-candidate folder m.0.file.now m.0.kind (kind-known m.0 m.1) (subst (IsCandidate folder) (sym m.2) candidate)))
 
   pub mixin-known : (name : List ℕ) → Contains (flat_map mixin_names files) name → (file : FolderClass) × Contains classes file × IsThinFile folder Mixin file × (file.name ≡ name)
   mixin-known name found =

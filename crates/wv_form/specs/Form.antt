@@ -9,17 +9,17 @@ use Rattle.wv_classes.specs.declared.class_read.ClassRead.TheVariants.{Class}
 use Rattle.wv_classes.specs.declared.folder_class.FolderClass.{FolderClass}
 use Rattle.wv_model.specs.PlainCode.{Game, Mixin}
 use Rattle.wv_resolve.specs.Refusal.{IsFirst, broken_at}
-use Rattle.wv_form.specs.FileForm.{IsThinFile, TargetsFile, ShareTarget, NamesFile}
+use Rattle.wv_form.specs.FileForm.{IsThinFile, IsCandidate, TargetsFile, ShareTarget, NamesFile}
 
 -- ---- Of the form
 
 -- the class file is thin in one of the roles, its name stands at no other path, and it names no other thin mixin; the
--- target of a thin mixin is a thin class, and of no other thin mixin
+-- target of a thin mixin is a thin class or one that isn't spelled, and of no other thin mixin
 pub record HasForm (folder : List File) (classes : List FolderClass) (file : FolderClass) : Type 0 where
   pub thin : IsThinFile folder Game file ⊎ IsThinFile folder Mixin file
   pub once : (other : FolderClass) → Contains classes other → other.name ≡ file.name → other.path ≡ file.path
   pub targets : IsThinFile folder Mixin file
-      → (target : FolderClass) × Contains classes target × IsThinFile folder Game target × TargetsFile file target
+      → (target : FolderClass) × Contains classes target × IsCandidate folder target × TargetsFile file target
   pub alone : IsThinFile folder Mixin file
       → (other : FolderClass) → Contains classes other → IsThinFile folder Mixin other → ShareTarget file other → other.path ≡ file.path
   pub names : (mixin : FolderClass) → Contains classes mixin → IsThinFile folder Mixin mixin → NamesFile file mixin → mixin.name ≡ file.name
@@ -38,7 +38,7 @@ pub data LacksForm (folder : List File) (classes : List FolderClass) (file : Fol
   not_thin : (IsThinFile folder Game file → ⊥) → (IsThinFile folder Mixin file → ⊥) → LacksForm folder classes file
   twice : (other : FolderClass) → Contains classes other → other.name ≡ file.name → (other.path ≡ file.path → ⊥) → LacksForm folder classes file
   no_target : IsThinFile folder Mixin file
-      → ((target : FolderClass) → Contains classes target → IsThinFile folder Game target → TargetsFile file target → ⊥) → LacksForm folder classes file
+      → ((target : FolderClass) → Contains classes target → IsCandidate folder target → TargetsFile file target → ⊥) → LacksForm folder classes file
   shared : IsThinFile folder Mixin file → (other : FolderClass) → Contains classes other → IsThinFile folder Mixin other
       → ShareTarget file other → (other.path ≡ file.path → ⊥) → LacksForm folder classes file
   names_mixin : (mixin : FolderClass) → Contains classes mixin → IsThinFile folder Mixin mixin → NamesFile file mixin

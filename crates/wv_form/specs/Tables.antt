@@ -24,13 +24,14 @@ target_place_of _ path = []
 abbrev pub target_places : KnownFile → List (List ℕ × List ℕ)
 target_places known = target_place_of known.kind known.file.now.path
 
--- the name, if it is that of a thin class, or of a thin mixin
-abbrev pub thin_name_of : FileKind → List ℕ → List (List ℕ)
-thin_name_of (kinds.Thin class) name = name ∷ []
-thin_name_of _ name = []
+-- the name, if a mixin's target may have this class file, or if it is that of a thin mixin
+abbrev pub candidate_name_of : FileKind → List ℕ → List (List ℕ)
+candidate_name_of kinds.NoClass name = name ∷ []
+candidate_name_of (kinds.Thin class) name = name ∷ []
+candidate_name_of _ name = []
 
-abbrev pub thin_names : KnownFile → List (List ℕ)
-thin_names known = thin_name_of known.kind known.file.now.name
+abbrev pub candidate_names : KnownFile → List (List ℕ)
+candidate_names known = candidate_name_of known.kind known.file.now.name
 
 abbrev pub mixin_name_of : FileKind → List ℕ → List (List ℕ)
 mixin_name_of (kinds.Mixin class target) name = name ∷ []
@@ -43,13 +44,13 @@ mixin_names known = mixin_name_of known.kind known.file.now.name
 pub record AreTables (files : List KnownFile) (tables : Tables) : Type 0 where
   pub names : TellsPlaces (map name_place files) tables.names
   pub targets : TellsPlaces (flat_map target_places files) tables.targets
-  pub thin : HasExactly (flat_map thin_names files) tables.thin
+  pub candidates : HasExactly (flat_map candidate_names files) tables.candidates
   pub mixins : HasExactly (flat_map mixin_names files) tables.mixins
 
--- whether the target of a mixin at this path is a thin class, and of no mixin at another path
+-- whether the target of a mixin at this path may have a class file of the folder, and is of no mixin at another path
 abbrev pub is_right : Tables → Option (List ℕ) → List ℕ → Bool
 is_right tables None path = false
-is_right tables (Some name) path = has tables.thin name && not (is_elsewhere (place_of tables.targets name) path)
+is_right tables (Some name) path = has tables.candidates name && not (is_elsewhere (place_of tables.targets name) path)
 
 -- whether the class names a mixin which has another name than the class file
 abbrev pub names_mixin : Tables → FolderClass → ClassFile → Bool

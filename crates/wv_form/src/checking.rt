@@ -14,7 +14,8 @@ use wv_front::WeaveFault;
 ///
 /// A class file that spells a class has it where the class is thin, as a class of the game or as a
 /// mixin; its name stands at no other path; and it names no thin mixin but itself. Of a mixin,
-/// besides, the target has to be a thin class, and no other thin mixin has the same.
+/// besides, the target has to be a thin class of the folder, or have a class file that spells none,
+/// which a later rule tells; and no other thin mixin has the same.
 ///
 /// Rule 9 (OutOfForm) is broken at each class file that spells a class and hasn't the form; the
 /// fault is the first by path, or want of memory.

@@ -32,15 +32,15 @@ pub(crate) struct KnownFile<'a> {
 
 impl<'a> KnownFile<'a> {
     ghost use Rattle.std.specs.Prelude.{◌≡◌, [], ◌∷◌};
-    ghost use Rattle.wv_form.specs.Tables.{mixin_names, target_places, thin_names};
+    ghost use Rattle.wv_form.specs.Tables.{mixin_names, target_places, candidate_names};
 
-    /// The name of the class file, if it spells a thin class.
-    pub(crate) fn thin_name(&self) -> Option<&str>
-        ensures { MatchOption result (thin_names self.now ≡ []) (λ name. thin_names self.now ≡ name.now ∷ []) }
+    /// The name of the class file, if a mixin's target may have it: it spells a thin class, or none.
+    pub(crate) fn candidate_name(&self) -> Option<&str>
+        ensures { MatchOption result (candidate_names self.now ≡ []) (λ name. candidate_names self.now ≡ name.now ∷ []) }
     {
         match &self.kind {
-            FileKind::Thin(_) => Some(self.file.name.as_str()),
-            FileKind::NoClass | FileKind::Mixin(_, _) | FileKind::Other => None,
+            FileKind::NoClass | FileKind::Thin(_) => Some(self.file.name.as_str()),
+            FileKind::Mixin(_, _) | FileKind::Other => None,
         }
     }
 

@@ -3,7 +3,7 @@ ghost use Rattle.std.specs.Prelude.{◌≡◌, List, IfOk, MatchBool, map};
 ghost use Rattle.std.specs.List.{flat_map};
 ghost use Rattle.wv_classes.specs.Roots.{HasExactly};
 ghost use Rattle.wv_form.specs.Placing.{TellsPlaces};
-ghost use Rattle.wv_form.specs.Tables.{name_place, target_places, thin_names, mixin_names};
+ghost use Rattle.wv_form.specs.Tables.{name_place, target_places, candidate_names, mixin_names};
 
 use crate::kinds::{FileKind, KnownFile};
 use crate::mention::OtherMixins;
@@ -47,13 +47,16 @@ fn places_of_targets<'a>(
     Ok(table)
 }
 
-/// The names of thin classes.
-fn names_of_thin<'a>(alloc: Global, files: &'a [KnownFile<'a>]) -> Result<BTreeSet<&'a str>, Memory>
-    ensures { IfOk result (HasExactly (flat_map thin_names files.now)) }
+/// The names of class files that a mixin's target may have.
+fn names_of_candidates<'a>(
+    alloc: Global,
+    files: &'a [KnownFile<'a>],
+) -> Result<BTreeSet<&'a str>, Memory>
+    ensures { IfOk result (HasExactly (flat_map candidate_names files.now)) }
 {
     let mut names = BTreeSet::new(alloc);
     for known in files {
-        if let Some(name) = known.thin_name() {
+        if let Some(name) = known.candidate_name() {
             names.insert(name)?;
         }
     }
@@ -83,8 +86,8 @@ pub(crate) struct Tables<'a> {
     names: BTreeMap<&'a str, Place<'a>>,
     /// The paths of mixins by the names of their targets.
     targets: BTreeMap<&'a str, Place<'a>>,
-    /// The names of thin classes.
-    thin: BTreeSet<&'a str>,
+    /// The names of class files that a mixin's target may have.
+    candidates: BTreeSet<&'a str>,
     /// The names of thin mixins.
     mixins: BTreeSet<&'a str>,
 }
@@ -103,7 +106,7 @@ impl<'a> Tables<'a> {
         Ok(Tables {
             names: places_of_names(alloc, files)?,
             targets: places_of_targets(alloc, files)?,
-            thin: names_of_thin(alloc, files)?,
+            candidates: names_of_candidates(alloc, files)?,
             mixins: names_of_mixins(alloc, files)?,
         })
     }
@@ -127,7 +130,8 @@ impl<'a> Tables<'a> {
         }
     }
 
-    /// Whether the target of a mixin at this path is a thin class, and of no mixin at another path.
+    /// Whether the target of a mixin at this path may have a class file of the folder, and is of no
+    /// mixin at another path.
     fn is_right(&self, target: &Option<Text>, path: &str) -> bool
         ensures { result ≡ is_right self.now target.now path.now }
     {
@@ -135,7 +139,7 @@ impl<'a> Tables<'a> {
             None => false,
             Some(name) => {
                 let name = name.as_str();
-                self.thin.contains(name) && !stands_elsewhere(&self.targets, name, path)
+                self.candidates.contains(name) && !stands_elsewhere(&self.targets, name, path)
             }
         }
     }

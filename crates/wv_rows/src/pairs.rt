@@ -24,6 +24,10 @@ mods/alpha/alpha/mixin/MainMixin.class = class:alpha/mixin/MainMixin on:Lapp/Gon
 mods/a/readme.txt = -
 => 9 OutOfForm at mods/alpha/alpha/mixin/MainMixin.class wanted - found -
 
+game/app/Main.class = ?
+mods/alpha/alpha/mixin/Other.class = class:alpha/mixin/Other on:Lapp/Gone; over:f
+=> 9 OutOfForm at mods/alpha/alpha/mixin/Other.class wanted - found -
+
 mods/alpha/fabric.mod.json = []
 mods/beta/readme.txt = -
 => 10 ModMissing at mods/beta/fabric.mod.json wanted - found -

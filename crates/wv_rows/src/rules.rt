@@ -49,10 +49,6 @@ mods/beta/beta/B.class = class:beta/B field:I
 mods/beta/fabric.mod.json = {"schemaVersion":1,"id":"beta","version":"1.0.0"}
 => 9 OutOfForm at mods/alpha/alpha/mixin/MainMixin.class wanted - found -
 
-# a target whose file spells no class
-game/app/Main.class = ?
-=> 9 OutOfForm at mods/alpha/alpha/mixin/MainMixin.class wanted - found -
-
 # a target that is a mixin
 mods/alpha/alpha/mixin/MainMixin.class = class:alpha/mixin/MainMixin on:Lalpha/mixin/Other; over:f
 mods/alpha/alpha/mixin/Other.class = class:alpha/mixin/Other on:Lapp/Main; over:f
@@ -210,6 +206,10 @@ mods/alpha/alpha.mixins.json = {"package":"alpha.mixin","mixins":["MainMixin"],"
 /// Rules 30 to 51, on class files and mixins.
 const CLASSES: &str = r#"game/app/B.class = ?
 => 30 ClassBad at game/app/B.class wanted layout found 0
+
+# the target of a mixin
+game/app/Main.class = ?
+=> 30 ClassBad at game/app/Main.class wanted layout found 0
 
 # behind a name of five bytes the number of the name has the offset 19
 game/app/B.class = class:app;B

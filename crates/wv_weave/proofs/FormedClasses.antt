@@ -15,7 +15,7 @@ use Rattle.wv_classes.specs.declared.folder_class.FolderClass.{FolderClass}
 use Rattle.wv_classes.specs.declared.loaded_class.LoadedClass.{LoadedClass}
 use Rattle.wv_classes.specs.FolderClass.{AreFolderClasses, IsFolderClass, IsReadOf}
 use Rattle.wv_classes.specs.LoadedClass.{IsLoadedAs}
-use Rattle.wv_form.specs.FileForm.{HasTarget, IsThinFile, TargetsFile}
+use Rattle.wv_form.specs.FileForm.{HasTarget, IsCandidate, IsThinFile, TargetsFile}
 use Rattle.wv_form.specs.Form.{AreOfForm, HasForm, IsOfForm}
 use Rattle.wv_merge.specs.ThinClass.{IsReadThin, IsThin}
 use Rattle.wv_model.specs.PlainCode.{Role, Game, Mixin}
@@ -115,19 +115,24 @@ module _ (folder : List File) (side : Side) (files : List FolderClass) (loaded :
       before : (g : FolderClass) → Contains fs g → IsPathBefore f.path g.path
       before g (k, inside, at) = subst (λ (x : FolderClass). IsPathBefore f.path x.path) at (ordered 0 (suc k) g (omega arith) (omega arith))
 
+  -- each class file is loaded, so one that may be a target's is thin
+  candidate-thin : (file : FolderClass) (class : LoadedClass) → IsLoadedAs file class → IsCandidate folder file → IsThinFile folder Game file
+  candidate-thin file class is (inl thin) = thin
+  candidate-thin file class is (inr none) = absurd (none class.class is.read)
+
   -- the target of a thin mixin
   thin-target : (class : LoadedClass) → Contains loaded class → IsReadThin Mixin class.class → HasThinTarget loaded class
   thin-target class there mixin = by (file-of class there)
     where
-      with : (file target : FolderClass) → IsLoadedAs file class → Contains files target → IsThinFile folder Game target → TargetsFile file target → HasThinTarget loaded class
-      with file target is in_files game (c, read, names) =
+      with : (file target : FolderClass) → IsLoadedAs file class → Contains files target → IsCandidate folder target → TargetsFile file target → HasThinTarget loaded class
+      with file target is in_files candidate (c, read, names) =
           made (zip-left IsLoadedAs files loaded as_loaded target in_files)
         where
           made : (t : LoadedClass) × Contains loaded t × IsLoadedAs target t → HasThinTarget loaded class
           made (t, in_loaded, is_t) = (
             t,
             in_loaded,
-            read-thin Game target t.class in_files is_t.read game,
+            read-thin Game target t.class in_files is_t.read (candidate-thin target t is_t candidate),
             subst (HasTarget class.class) (sym is_t.name) (subst (λ (x : ClassFile). HasTarget x target.name) (same-class c class.class (sym read ∙ is.read)) names),
           )
 

@@ -1,8 +1,0 @@
-use Rattle.std.proofs.Common.{take, flat_map}
-use Rattle.wv_classes.specs.Roots.{HasExactly}
-use Rattle.wv_form.specs.Tables.{thin_names}
-use Rattle.wv_form.proofs.tables.names_of_thin.Given as goal
-
--- the names so far
-abbrev pub invariant-loop-known : goal.invariant-loop-known
-invariant-loop-known l = HasExactly (flat_map thin_names (take l.known-index l.files)) l.names
