@@ -1,8 +1,9 @@
-//! The limit on a folder's files.
+//! The limits on a folder's files and on their bytes.
 
 use crate::cases::prints;
 use crate::files::{folder, push, small};
 use crate::outside::WEAVE;
+use std::alloc::Global;
 use std::process::Abort;
 use std::test::Fail;
 use wv_base::Bytes;
@@ -49,6 +50,64 @@ fn files_end(
 fn files_are_limited(rt: HostRuntime) -> Result<(), Fail> {
     for (count, changes, line) in FILES {
         files_end(&rt, count, changes, line)?;
+    }
+    Ok(())
+}
+
+/// How many bytes the folder has with the file that is added, the path of that file, and how the call
+/// ends. The file comes behind the others.
+const BYTES: [(usize, &str, &str); 3] = [
+    (
+        67_108_864,
+        "z.json",
+        "woven 1 classes, 1 edited, 1 mixins, 0 hooks",
+    ),
+    (
+        67_108_865,
+        "z.json",
+        "refused: rule 5 TooMuch at z.json wanted 67108864 bytes found -",
+    ),
+    // What is left unread has no bytes.
+    (
+        67_108_865,
+        "z.txt",
+        "woven 1 classes, 1 edited, 1 mixins, 0 hooks",
+    ),
+];
+
+/// As many spaces.
+fn spaces(alloc: Global, count: usize) -> Result<Bytes, Fail> {
+    let block = [b' '; 4096];
+    let mut bytes = Vec::new(alloc);
+    for _ in 0..count / block.len() {
+        bytes.extend_from_slice(&block)?;
+    }
+    bytes.extend_from_slice(&block[..count % block.len()])?;
+    Ok(Bytes::from_vec(bytes))
+}
+
+fn bytes_end(
+    rt: &(impl Abort + AllocGlobal),
+    count: usize,
+    path: &str,
+    line: &str,
+) -> Result<(), Fail> {
+    let alloc = rt.alloc();
+    let mut folder = folder(rt, &small(alloc, "")?)?;
+    let mut used = 0usize;
+    for (_, bytes) in folder.files() {
+        used = used.saturating_add(bytes.len());
+    }
+    let bytes = spaces(alloc, count.saturating_sub(used))?;
+    push(rt, &mut folder, path, bytes)?;
+    prints(rt, WEAVE, folder, line)?;
+    Ok(())
+}
+
+#[test]
+fn bytes_are_limited(rt: HostRuntime) -> Result<(), Fail> {
+    for (count, path, line) in BYTES {
+        bytes_end(&rt, count, path, line)?;
     }
     Ok(())
 }
